@@ -1,12 +1,16 @@
 //! One vehicle's inspection, followed from the names of its parts to their paths, and told in print.
 mod listing;
+mod sector;
 mod text;
 
 use listing::Listing;
 use names::folding::TableFolding;
 use names::folding::TableFoldingFolding;
 use names::name::validate_name;
-use names::path::name_chain_from_path;
+use paths::name_chain_from_path;
+use sector::Row;
+use sector::RowDisplay;
+use sector::Sector;
 use std::error::AnyError;
 use text::Text;
 use text::TextDisplay;
@@ -93,12 +97,48 @@ fn paths_resolved(rt: &LibcRuntime) -> Result<(), AnyError> {
     Ok(())
 }
 
+fn tell_records(rt: &LibcRuntime, sector: &Sector) -> Result<(), AnyError> {
+    for number in 0..4u8 {
+        match sector::read(sector, number) {
+            Ok(entry) => {
+                let row = Row(entry);
+                println!(rt, "  {number}  {row}")?
+            }
+            Err(refusal) => {
+                let why = refusal.number();
+                let record = refusal.id;
+                let offset = refusal.offset();
+                println!(
+                    rt,
+                    "  {number}  refused, {why}: record {record}, offset {offset}"
+                )?
+            }
+        }
+    }
+    Ok(())
+}
+
+fn records_written(rt: &LibcRuntime) -> Result<(), AnyError> {
+    let entries = sector::monday(rt.alloc())?;
+    let mut sector = sector::write(&entries);
+    println!(
+        rt,
+        "Monday's records, written into one sector and read back strictly:"
+    )?;
+    tell_records(rt, &sector)?;
+    sector::damage(&mut sector);
+    println!(rt, "The same with one byte spoiled:")?;
+    tell_records(rt, &sector)
+}
+
 fn run(rt: &LibcRuntime) -> Result<(), AnyError> {
     println!(rt, "Inspection of vehicle 417 on Monday")?;
     println!(rt, "")?;
     names_in_order(rt)?;
     println!(rt, "")?;
-    paths_resolved(rt)
+    paths_resolved(rt)?;
+    println!(rt, "")?;
+    records_written(rt)
 }
 
 fn main(rt: LibcRuntime) -> Result<(), AnyError> {

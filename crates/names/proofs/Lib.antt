@@ -1,12 +1,8 @@
-pub mod Chained
 pub mod CodePoints
-pub mod Cutting
 pub mod Filling
 pub mod FoldedOrder
-pub mod Following
 pub mod KeyFilling
 pub mod Scanning
-pub mod SpelledNames
 pub mod Spelling
 pub mod TotalOrder
 pub mod Worked

@@ -1,9 +1,7 @@
 -- The worked examples, computed.
-use mathlib.Core.Path.{_≡_, refl, ap₂, _∙_}
+use mathlib.Core.Path.{refl, ap₂}
 use mathlib.Core.List.{[], _∷_}
-use Prim.Native.Nat.{ℕ}
 use native.Mathlib.Omega.{arith}
-use Rattle.names.specs.Foldings.{KeepsAscii}
 use Rattle.names.specs.Order.{lexical}
 use Rattle.names.specs.Examples.{Examples}
 
@@ -12,11 +10,4 @@ examples = record {
   short-first = λ fold. refl;
   by-code-points = refl;
   case-apart = λ fold keeps. ap₂ (λ x y. lexical (x ∷ []) (y ∷ [])) (keeps 97 (omega arith)) (keeps 65 (omega arith));
-  root-accepted = refl;
-  root-empty = refl;
-  resolved-accepted = refl;
-  resolved-names = refl;
-  above-root = refl;
-  sixty-four = refl;
-  sixty-five = refl;
 }

@@ -4,8 +4,4 @@ pub mod Names
 pub mod Foldings
 pub mod Keys
 pub mod Order
-pub mod Pieces
-pub mod Separators
-pub mod Chains
-pub mod Trails
 pub mod Examples

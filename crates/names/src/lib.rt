@@ -1,8 +1,7 @@
-//! Names of a compound file's directory: UTF-16 units, counted names, foldings, the order of names, and paths.
+//! Names of a compound file's directory: UTF-16 units, counted names, foldings, keys and the order of names.
 pub mod examples;
 pub mod folding;
 pub mod key;
 pub mod name;
 pub mod order;
-pub mod path;
 pub mod utf16;

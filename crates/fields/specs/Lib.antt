@@ -1,0 +1,4 @@
+pub mod Kinds
+pub mod Offsets
+pub mod Refusals
+pub mod Versions

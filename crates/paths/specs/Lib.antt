@@ -1,0 +1,5 @@
+pub mod Chains
+pub mod Examples
+pub mod Pieces
+pub mod Separators
+pub mod Trails

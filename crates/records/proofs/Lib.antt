@@ -1,0 +1,15 @@
+pub mod NumbersAt
+pub mod UnitPairs
+pub mod WritesInOrder
+pub mod JudgedInSteps
+pub mod KeptRules
+pub mod AcceptedMeans
+pub mod NumbersBack
+pub mod StrictExact
+pub mod WrittenStands
+pub mod ReadAllowed
+pub mod ReadStands
+pub mod RoundTrips
+pub mod NameLengths
+pub mod MadeAllowed
+pub mod OneLinkChanged

@@ -1,0 +1,10 @@
+pub mod Bytes
+pub mod Fields
+pub mod Rules
+pub mod Steps
+pub mod Means
+pub mod Entries
+pub mod Writing
+pub mod Allowed
+pub mod Laws
+pub mod Examples
