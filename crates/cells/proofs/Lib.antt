@@ -1,0 +1,15 @@
+pub mod Links
+pub mod Rechained
+pub mod Fields
+pub mod Walks
+pub mod Hooks
+pub mod Gaps
+pub mod Moves
+pub mod Empties
+pub mod Entries
+pub mod Lookups
+pub mod Firsts
+pub mod Edited
+pub mod Tables
+pub mod Unwrapped
+pub mod Marking
