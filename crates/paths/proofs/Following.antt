@@ -36,7 +36,7 @@ kinds-name false true e = (refl, cc)
 kinds-name false false e = (refl, refl)
 
 -- from d names on there are at least d names at some moment
-deepest-least : (d : ℕ) (ps : List Piece) → d ≤ deepest d ps
+pub deepest-least : (d : ℕ) (ps : List Piece) → d ≤ deepest d ps
 deepest-least d [] = omega arith
 deepest-least d (p ∷ ps) = omega arith
 

@@ -8,6 +8,8 @@
 --   Walk             what a list of pieces does from a storage on: so many names taken away, then these names
 --   walk ps          that of the pieces ps
 --   deepest d ps     the most names held at any moment, from d names on
+--   heldAfter ps n   how many names are held after the first n pieces
+--   Most ps m        m is the most names held at any moment
 --   pathRefusal us   why a path is refused: bad UTF-16 anywhere, else above the root anywhere, else over 64 names
 --   resolved us      the names that a path leaves
 --   pathNumber e     the number of a refusal
@@ -15,8 +17,8 @@
 use mathlib.Core.List.{List, [], _∷_}
 use mathlib.Core.Path.{_≡_}
 use mathlib.Core.Bool.{Bool, true, false, cond, not, _&&_, _||_}
-use Prim.Native.Nat.{ℕ, zero, suc, _+_, _-_, max}
-use lib.ListN.{length, getD}
+use Prim.Native.Nat.{ℕ, zero, suc, _+_, _-_, max, _≤_}
+use lib.ListN.{length, take}
 use lib.Dec.{eqb, ltb}
 use Rattle.std.specs.declared.option.Option.{Option}
 use Rattle.std.specs.declared.option.Option.the-variants.{Some, None}
@@ -75,6 +77,13 @@ walk (p ∷ ps) = cond (nothing (p .units)) (walk ps) (cond (parent (p .units)) 
 abbrev pub deepest : ℕ → List Piece → ℕ
 deepest d [] = d
 deepest d (p ∷ ps) = max d (cond (nothing (p .units)) (deepest d ps) (cond (parent (p .units)) (deepest (d - 1) ps) (deepest (d + 1) ps)))
+
+abbrev pub heldAfter : List Piece → ℕ → ℕ
+heldAfter ps n = length (walk (take n ps) .names)
+
+pub record Most (ps : List Piece) (m : ℕ) : Type 0 where
+  pub never-more : (n : ℕ) → heldAfter ps n ≤ m
+  pub reached : (n : ℕ) × (heldAfter ps n ≡ m)
 
 abbrev pub resolved : List ℕ → List Piece
 resolved us = walk (cut 0 us) .names

@@ -1,13 +1,13 @@
 //! A path resolved into the names that it leaves.
 ghost use mathlib.Core.Path.{_≡_};
-ghost use mathlib.Core.List.{[]};
+ghost use mathlib.Core.List.{List, []};
 ghost use Prim.Native.Nat.{_<_, _≤_, min};
 ghost use lib.ListN.{length, getD, take, drop};
 ghost use Rattle.std.specs.Options.{Cases as BySome};
 ghost use Rattle.std.specs.Results.{Cases};
 ghost use Rattle.std.specs.declared.option.Option.the-variants.{Some, None};
 ghost use Rattle.paths.specs.declared.PathError.the-variants.{AboveRoot};
-ghost use Rattle.paths.specs.Pieces.{cut, walk, resolved, pathRefusal, AllWellFormed};
+ghost use Rattle.paths.specs.Pieces.{Piece, cut, walk, deepest, Most, resolved, pathRefusal, AllWellFormed};
 ghost use Rattle.paths.specs.Chains.{pieceOf, noPiece, noPlace, chained};
 ghost use Rattle.paths.specs.Trails.{Onward};
 use crate::Component;
@@ -117,3 +117,8 @@ fn units_at(path: &[u16], place: Place) -> &[u16]
     let len = place.len.min(rest.len());
     &rest[0..len]
 }
+
+/// States what refusal 6 counts, for proofs to call: the most names that any front of a path leaves. It does nothing.
+pub fn moments_are_counted()
+    ensures { λ _. ⌜ ((ps : List Piece) → Most ps (deepest 0 ps)) ⌝ }
+{}
