@@ -9,10 +9,11 @@ use lib.ListN.{length, getD, set}
 use Rattle.std.proofs.shelf.Lists.{length-set, getD-set-other, set-set}
 use Rattle.std.specs.declared.option.Option.{Option}
 use Rattle.std.specs.declared.option.Option.the-variants.{Some, None}
+use Rattle.std.proofs.shelf.Tests.{cases-bool}
 use Rattle.cells.specs.declared.cell.Entry.{Entry}
 use Rattle.cells.specs.Chains.{revalued}
 use Rattle.cells.specs.Maps.{valueIn, Once, Dense}
-use Rattle.cells.proofs.Entries.{cases-bool, some-none, some-of, none-of, At, set-here}
+use Rattle.cells.proofs.Entries.{some-none, some-of, none-of, At, set-here}
 use Rattle.cells.proofs.Lookups.{Laws, find-none, find-some, once-put, look-put, once-gone, look-gone, gone-none}
 use Rattle.cells.proofs.Firsts.{taken-below, dense-put, dense-replace, dense-last, dense-moved}
 

@@ -11,14 +11,10 @@ use Rattle.std.specs.declared.option.Option.{Option}
 use Rattle.std.specs.declared.option.Option.the-variants.{Some, None}
 use Rattle.cells.specs.declared.cell.Entry.{Entry}
 use Rattle.std.proofs.shelf.Lists.{getD-set-same, getD-set-other}
-use Rattle.std.proofs.shelf.Tests.{cases-eq}
+use Rattle.std.proofs.shelf.Tests.{both-ways, cases-eq}
 
 pub both : (b : Bool) → b ≡ true → b ≡ false → ⊥
-both b p q = let z : true ≡ false = sym p ∙ q in let o : _≡_ {A = ℕ} 0 1 = cc in omega arith
-
-pub cases-bool : (b : Bool) → (b ≡ true) ⊎ (b ≡ false)
-cases-bool true = inl refl
-cases-bool false = inr refl
+both b p q = both-ways b q p
 
 pub some-none : {X : Type 0} (x : X) → _≡_ {A = Option X} None (Some x) → ⊥
 some-none x q = let o : _≡_ {A = ℕ} 0 1 = cc in omega arith

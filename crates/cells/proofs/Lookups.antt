@@ -8,9 +8,10 @@ use native.Mathlib.Omega.{arith}
 use lib.ListN.{length, getD, set}
 use Rattle.std.specs.declared.option.Option.{Option}
 use Rattle.std.specs.declared.option.Option.the-variants.{Some, None}
+use Rattle.std.proofs.shelf.Tests.{cases-bool}
 use Rattle.cells.specs.declared.cell.Entry.{Entry}
 use Rattle.cells.specs.Maps.{valueIn, Once}
-use Rattle.cells.proofs.Entries.{both, cases-bool, some-none, At, set-here, at-set, set-at}
+use Rattle.cells.proofs.Entries.{both, some-none, At, set-here, at-set, set-at}
 
 -- sameness as the laws have it
 pub record Laws {K : Type 0} (same : K → K → Bool) : Type 0 where
