@@ -67,5 +67,5 @@ pub hash-more : (seed h k i : ℕ) (xs : List ℕ) → i < length xs → h ≡ m
 hash-more seed h k i xs lt e f = f ∙ ap (λ z. mixed z (getD xs i 0)) e ∙ sym (folded-more mixed seed xs i 0 lt)
 
 -- the numbers that a child's hash is made of, in their order
-pub hash-made : (h a b n p u i : ℕ) (xs ys : List ℕ) → h ≡ mixedAll b (take i xs) → length xs ≤ i → xs ≡ ys → b ≡ mixed a n → a ≡ mixed seed p → n ≡ u → h ≡ mixedAll (mixed (mixed seed p) u) ys
-hash-made h a b n p u i xs ys e le f g j k = let t = take-all i xs le in cc
+pub hash-made : (h b p u i : ℕ) (xs ys : List ℕ) → h ≡ mixedAll b (take i xs) → length xs ≤ i → xs ≡ ys → b ≡ mixed (mixed seed p) u → h ≡ mixedAll (mixed (mixed seed p) u) ys
+hash-made h b p u i xs ys e le f g = let t = take-all i xs le in cc
