@@ -2,6 +2,8 @@
 //! A line is a record in hex and four answers: version 3 strict, version 3 permissive, version 4 strict, version 4
 //! permissive; `=` for the answer before. An answer is `NUMBER@OFFSET` of a refusal, or the fields of the entry in hex,
 //! then each byte that is another when the crate writes the entry again, as its place and its value.
+//! A line `every RECORD BYTE DIGEST` stands for the 255 records with another value in that byte: the digest (FNV-1a, 64
+//! bits) is over their answers, values ascending, each followed by a line feed.
 use cfb::internal::*;
 use std::collections::BTreeMap;
 
@@ -267,7 +269,7 @@ fn main() {
     }
     let mut r = Rng(0x9E3779B97F4A7C15);
     let mut records: Vec<Record> = Vec::new();
-    // every single-byte change of a storage, a stream, a root and a free record
+    // a storage, a stream, a root and a free record, and each of their bytes changed in three ways
     for base in bases() {
         records.push(base);
         for at in 0..128 {
@@ -308,19 +310,38 @@ fn main() {
     records.extend(differences().into_iter().map(|(_, b)| b));
     let mut met: BTreeMap<String, u32> = BTreeMap::new();
     for b in &records {
-        let mut line = hex(b);
-        let mut before = String::new();
-        for version in [Version::V3, Version::V4] {
-            for validation in [Validation::Strict, Validation::Permissive] {
-                let told = answer(b, version, validation);
-                let key = if told.contains('@') { told.clone() } else { "read".to_string() };
-                *met.entry(key).or_default() += 1;
-                line += " ";
-                line += if told == before { "=" } else { &told };
-                before = told;
-            }
-        }
-        println!("{line}");
+        println!("{}{}", hex(b), answers(b, &mut met));
     }
     eprintln!("{} records: {met:?}", records.len());
+    // every single-byte change of the four, all 255 values of each byte, as one digest for each byte
+    for base in bases() {
+        for at in 0..128 {
+            let mut digest = 0xcbf2_9ce4_8422_2325u64;
+            for value in (0..=255).filter(|&v| v != base[at]) {
+                let mut b = base;
+                b[at] = value;
+                for x in format!("{}\n", &answers(&b, &mut met)[1..]).bytes() {
+                    digest = (digest ^ u64::from(x)).wrapping_mul(0x100_0000_01b3);
+                }
+            }
+            println!("every {} {at} {digest:016x}", hex(&base));
+        }
+    }
+    eprintln!("with every single-byte change: {met:?}");
+}
+
+/// The four answers for a record, each after a space.
+fn answers(record: &Record, met: &mut BTreeMap<String, u32>) -> String {
+    let (mut line, mut before) = (String::new(), String::new());
+    for version in [Version::V3, Version::V4] {
+        for validation in [Validation::Strict, Validation::Permissive] {
+            let told = answer(record, version, validation);
+            let key = if told.contains('@') { told.clone() } else { "read".to_string() };
+            *met.entry(key).or_default() += 1;
+            line += " ";
+            line += if told == before { "=" } else { &told };
+            before = told;
+        }
+    }
+    line
 }

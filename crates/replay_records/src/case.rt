@@ -1,4 +1,5 @@
-//! A line of the list: a record, and the four answers that were recorded for it.
+//! A line of the list: a record and the four answers that were recorded for it, or every change of one of its bytes and a
+//! digest of the answers.
 use crate::answer::Answer;
 use crate::answer::AnswerDisplay;
 use fields::validate::Validation;
@@ -8,7 +9,7 @@ use std::alloc::AllocError;
 use std::alloc::Global;
 use std::error::AnyError;
 
-/// Whether the port gives the answers of a line.
+/// Whether the port gives the answers of a line for one record.
 pub fn agrees(heap: Global, id: u32, line: &str) -> Result<bool, AnyError> {
     let Some((hex, told)) = line.split_once(' ') else {
         return Err("a line without answers".into());
@@ -16,6 +17,54 @@ pub fn agrees(heap: Global, id: u32, line: &str) -> Result<bool, AnyError> {
     let record = parse_record(hex)?;
     let text = answers(heap, id, &record)?;
     Ok(text.as_str() == told)
+}
+
+/// Whether the port gives the answers for the 255 records with another value in one byte: `RECORD BYTE DIGEST`.
+pub fn agrees_on_every(heap: Global, line: &str) -> Result<bool, AnyError> {
+    let mut words = line.split(' ');
+    let record = parse_record(words.next().unwrap_or(""))?;
+    let at = words.next().unwrap_or("").parse::<usize>()?;
+    let told = u64::from_str_radix(words.next().unwrap_or(""), 16)?;
+    if at >= record.len() {
+        return Err("a byte outside the record".into());
+    }
+    let mut digest = Digest::new();
+    for value in 0..256u16 {
+        let value = (value & 0xff) as u8;
+        if value != record[at] {
+            digest.take_line(answers(heap, 0, &changed(record, at, value))?.as_str());
+        }
+    }
+    Ok(digest.0 == told)
+}
+
+/// A record with another value in one byte.
+fn changed(mut record: [u8; 128], at: usize, value: u8) -> [u8; 128] {
+    if at < 128 {
+        record[at] = value;
+    }
+    record
+}
+
+/// A digest of lines: FNV-1a, 64 bits.
+#[derive(Drop)]
+struct Digest(u64);
+
+impl Digest {
+    fn new() -> Digest {
+        Digest(0xcbf2_9ce4_8422_2325)
+    }
+
+    fn take(&mut self, byte: u8) {
+        self.0 = (self.0 ^ u64::from(byte)).wrapping_mul(0x100_0000_01b3);
+    }
+
+    fn take_line(&mut self, line: &str) {
+        for byte in line.bytes() {
+            self.take(byte);
+        }
+        self.take(b'\n');
+    }
 }
 
 /// The answers for a record, as the list has them.
