@@ -29,7 +29,7 @@ pub fn key_of(n: u32) -> ChildKey {
     }
 }
 
-/// How many cells the searches of a kind looked at.
+/// How many cells the searches of a kind look at, reckoned from the hashes.
 #[derive(Clone, Copy)]
 pub struct Reach {
     searches: u32,
