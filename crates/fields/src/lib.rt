@@ -1,4 +1,6 @@
 //! The types of a record's fields, their numbers, and what can be wrong with a record.
+#![tactic(auto)]
+
 pub mod color;
 pub mod consts;
 pub mod link;

@@ -1,5 +1,5 @@
 -- How the code points of a list of units follow from those of what is left of it.
-use Rattle.std.proofs.Common.{◌≡◌, ℕ, ◌+◌, ◌-◌, ◌<◌, ◌≤◌, Bool, true, false, cond, not, ◌&&◌, ◌⊎◌, List, [], ◌∷◌, length, get_or, take, drop, sym, refl, ap, ◌∙◌, inl, inr, arith}
+use Rattle.std.proofs.Common.{◌≡◌, ℕ, ◌-◌, ◌<◌, ◌≤◌, true, false, ◌&&◌, ◌⊎◌, List, [], ◌∷◌, length, get_or, take, drop, sym, ap, inl, inr, arith}
 use Rattle.std.proofs.lemmas.List.{take_rest, length-drop}
 use Rattle.names.specs.Units.{codes, high, low, joined}
 

@@ -1,5 +1,5 @@
 -- Two names of one length compared code point by code point: the answer for the names is the answer for what is left.
-use Rattle.std.proofs.Common.{◌≡◌, ℕ, ◌<◌, ◌≤◌, Bool, true, false, List, [], ◌∷◌, map, length, Ordering, Less, Equal, Greater, sym, refl, ap, ◌∙◌, ap₂, arith}
+use Rattle.std.proofs.Common.{◌≡◌, ℕ, ◌<◌, List, ◌∷◌, map, Ordering, Equal, sym, ap, ◌∙◌, ap₂}
 use Rattle.std.specs.Ordering.{MatchOrdering, ordering_then}
 use Rattle.names.specs.Units.{codes}
 use Rattle.names.specs.Order.{numbers, lexical}

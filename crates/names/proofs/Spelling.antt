@@ -1,6 +1,6 @@
 -- Well-formed units are exactly those that spell code points, and spell them in one way.
-use Rattle.std.proofs.Common.{◌≡◌, ℕ, ◌+◌, ◌-◌, ◌*◌, ◌<◌, ◌≤◌, Bool, true, false, cond, not, ◌&&◌, leb, ◌⊎◌, List, [], ◌∷◌, Decides, sym, refl, ap, ◌∙◌, inl, inr, ⊎_elim, arith}
-use Rattle.std.proofs.lemmas.Bool.{and_parts, and_from, and_right, not-true, not_from_false, leb-true, le-leb, lt-leb, cases_Bool, both_ways, true≢false}
+use Rattle.std.proofs.Common.{◌≡◌, ℕ, Bool, true, false, cond, not, ◌&&◌, leb, List, [], ◌∷◌, Decides, sym, refl, ap, ◌∙◌, ⊎_elim, arith}
+use Rattle.std.proofs.lemmas.Bool.{and_parts, and_from, and_right, not-true, not_from_false, leb-true, le-leb, lt-leb, cases_Bool, both_ways}
 use Rattle.names.specs.Units.{high, low, surrogate, joined, codes, no_surrogate, well_formed, Spells, nothing, single, pair}
 
 -- the first half of a pair is a surrogate

@@ -5,7 +5,7 @@
 --   ascii_fold        the folding that knows ASCII alone
 --   table_fold ps     the folding that looks codes above 127 up in a list of pairs
 --   KeepsAscii f     the law of every folding: below 128 it is ascii_upper
-use Rattle.std.specs.Prelude.{◌≡◌, ℕ, ◌-◌, ◌<◌, Bool, cond, ◌&&◌, List, [], ◌∷◌, ◌==◌, nat_le, nat_lt}
+use Rattle.std.specs.Prelude.{◌≡◌, ℕ, ◌-◌, ◌<◌, cond, ◌&&◌, List, [], ◌∷◌, ◌==◌, nat_le, nat_lt}
 
 abbrev pub ascii_upper : ℕ → ℕ
 ascii_upper c = cond (nat_le 97 c && nat_le c 122) (c - 32) c

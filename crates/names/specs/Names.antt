@@ -5,7 +5,7 @@
 --   forbidden u    u is one of / \ : !
 --   allowed us     none of the units is forbidden
 --   name_number e   the number of a refusal
-use Rattle.std.specs.Prelude.{ℕ, Bool, true, false, cond, not, ◌&&◌, ◌||◌, List, [], ◌∷◌, length, take, ◌==◌}
+use Rattle.std.specs.Prelude.{ℕ, Bool, true, not, ◌&&◌, ◌||◌, List, [], ◌∷◌, length, take, ◌==◌}
 use Rattle.names.specs.Padding.{padded}
 use Rattle.names.specs.declared.name.Name.{Name}
 use Rattle.names.specs.declared.name.NameError.{NameError}

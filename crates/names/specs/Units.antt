@@ -7,7 +7,7 @@
 --                   code point, any other unit is one by itself
 --   well_formed us   no surrogate stands by itself: every high one is followed by a low one, and no low one is alone
 --   Spells us cs    us is the UTF-16 of the code points cs, one by one
-use Rattle.std.specs.Prelude.{◌≡◌, ℕ, ◌+◌, ◌-◌, ◌*◌, Bool, true, false, cond, not, ◌&&◌, ◌||◌, List, [], ◌∷◌, nat_le}
+use Rattle.std.specs.Prelude.{◌≡◌, ℕ, ◌+◌, ◌-◌, ◌*◌, Bool, true, false, cond, not, ◌&&◌, List, [], ◌∷◌, nat_le}
 
 abbrev pub high : ℕ → Bool
 high u = nat_le 0xd800 u && nat_le u 0xdbff

@@ -17,14 +17,14 @@ pub struct NameKey {
 
 /// The key under which a name is indexed.
 pub fn name_key<F: Folding>(folding: &F, name: &Name) -> NameKey
-    ensures { result ≡ in_place (key_of (folds folding.now) (spelled name.now)) }
+    ensures { result ≡ in_place (key_of (F.folds folding.now) (spelled name.now)) }
 {
     fold_units(folding, name.units())
 }
 
 fn fold_units<F: Folding>(folding: &F, units: &[u16]) -> NameKey
     requires { length units.now ≤ 31 }
-    ensures { result ≡ in_place (key_of (folds folding.now) units.now) }
+    ensures { result ≡ in_place (key_of (F.folds folding.now) units.now) }
 {
     let mut codes = [0; 31];
     let mut count: usize = 0;

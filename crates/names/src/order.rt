@@ -10,7 +10,7 @@ use std::cmp::Ordering;
 
 /// How two names compare: the shorter first, by its units; of two of one length, by their folded code points.
 pub fn compare_names<F: Folding>(folding: &F, left: &[u16], right: &[u16]) -> Ordering
-    ensures { result ≡ order (key_of (folds folding.now) left.now) (key_of (folds folding.now) right.now) }
+    ensures { result ≡ order (key_of (F.folds folding.now) left.now) (key_of (F.folds folding.now) right.now) }
 {
     match left.len().cmp(&right.len()) {
         Ordering::Equal => compare_folded(folding, left, right),
@@ -19,7 +19,7 @@ pub fn compare_names<F: Folding>(folding: &F, left: &[u16], right: &[u16]) -> Or
 }
 
 fn compare_folded<F: Folding>(folding: &F, left: &[u16], right: &[u16]) -> Ordering
-    ensures { result ≡ lexical (map (folds folding.now) (codes left.now)) (map (folds folding.now) (codes right.now)) }
+    ensures { result ≡ lexical (map (F.folds folding.now) (codes left.now)) (map (F.folds folding.now) (codes right.now)) }
 {
     let mut left = left;
     let mut right = right;
@@ -41,5 +41,5 @@ fn compare_folded<F: Folding>(folding: &F, left: &[u16], right: &[u16]) -> Order
 
 /// States that names are totally ordered by `compare_names`, for proofs to call; it does nothing.
 pub fn names_are_ordered<F: Folding>(folding: &F)
-    ensures { Ordered (folds folding.now) }
+    ensures { Ordered (F.folds folding.now) }
 {}

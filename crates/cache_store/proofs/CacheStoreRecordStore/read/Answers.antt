@@ -7,12 +7,12 @@ use Rattle.cache_store.proofs.Kept.{length-laid, within_held, read_hit, read_mis
 use Rattle.cache_store.proofs.ThroughCopies.{not_given_through, remembered_same}
 use Rattle.cache_store.proofs.CacheStoreRecordStore.read.Goals as goal
 
-pub returns-in-err-unless-there : goal.returns-in-err-unless-there
-returns-in-err-unless-there g c =
+pub returns-in_err-unless-there : goal.returns-in_err-unless-there
+returns-in_err-unless-there g c =
     let s = c.args.self.now in
     let m = g.S.RecordStore.meaning s.inner in
     let p = err_from_is_err_and c.from-residual.result c.from-residual.ensures.1 in
-    let b = c.in-err-unless-there.ensures in
+    let b = c.in_err-unless-there.ensures in
     record {
       beside = refl;
       kept = refl;
@@ -30,7 +30,7 @@ returns-in-Some g c =
     let s = c.args.self.now in
     let m = g.S.RecordStore.meaning s.inner in
     let f = c.in-Some.ensures in
-    let there : c.args.number < length m.records = omega (arith, c.in-ok-unless-there.ensures.0, c.record-count-count.ensures) in
+    let there : c.args.number < length m.records = omega (arith, c.in_ok-unless-there.ensures.0, c.record-count-count.ensures) in
     record {
       beside = refl;
       kept = refl;
@@ -46,13 +46,13 @@ returns-in-Some g c =
       };
     }
 
-pub returns-in-err-read : goal.returns-in-err-read
-returns-in-err-read g c =
+pub returns-in_err-read : goal.returns-in_err-read
+returns-in_err-read g c =
     let s = c.args.self.now in
     let m = g.S.RecordStore.meaning s.inner in
-    let p = err_from_is_err_and c.from-residual-in-err-read.result c.from-residual-in-err-read.ensures.1 in
-    let b = c.in-err-read.ensures in
-    let there : c.args.number < length m.records = omega (arith, c.in-ok-unless-there.ensures.0, c.record-count-count.ensures) in
+    let p = err_from_is_err_and c.from-residual-in_err-read.result c.from-residual-in_err-read.ensures.1 in
+    let b = c.in_err-read.ensures in
+    let there : c.args.number < length m.records = omega (arith, c.in_ok-unless-there.ensures.0, c.record-count-count.ensures) in
     record {
       beside = b.beside;
       kept = ap (laid s.copies) b.kept;
@@ -65,15 +65,15 @@ pub returns : goal.returns
 returns g c =
     let s = c.args.self.now in
     let m = g.S.RecordStore.meaning s.inner in
-    let b = c.in-ok-read.ensures in
+    let b = c.in_ok-read.ensures in
     let k = remembered_same s.copies c.keep.new.self m c.args.number c.read.new.into c.keeps-sizes.ensures c.read.array_long b.answer.is
-    c.in-default.ensures c.keep.ensures in
+    c.in_default.ensures c.keep.ensures in
     record {
       beside = b.beside;
       kept = ap (laid c.keep.new.self) b.kept ∙ k.0;
       answer = record {
         there = omega (arith, b.answer.there, length-laid s.copies m);
-        is = b.answer.is ∙ read_miss s.copies m c.args.number c.in-default.ensures;
+        is = b.answer.is ∙ read_miss s.copies m c.args.number c.in_default.ensures;
       };
       below = b.kept;
       remembers = k.1;

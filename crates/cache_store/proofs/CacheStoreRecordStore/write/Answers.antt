@@ -9,12 +9,12 @@ use Rattle.cache_store.proofs.Kept.{length-laid, within_held, laid-patched, laid
 use Rattle.cache_store.proofs.ThroughCopies.{not_written_through}
 use Rattle.cache_store.proofs.CacheStoreRecordStore.write.Goals as goal
 
-pub returns-in-err-unless-there : goal.returns-in-err-unless-there
-returns-in-err-unless-there g c =
+pub returns-in_err-unless-there : goal.returns-in_err-unless-there
+returns-in_err-unless-there g c =
     let s = c.args.self.now in
     let m = g.S.RecordStore.meaning s.inner in
     let p = err_from_is_err_and c.from-residual.result c.from-residual.ensures.1 in
-    let b = c.in-err-unless-there.ensures in
+    let b = c.in_err-unless-there.ensures in
     record {
       beside = refl;
       answer = rw (p.1, p.2) (not_there Cache g.S.RecordStore.faults (laid s.copies m) c.args.number c.args.offset (length c.args.bytes.now) _ b.0
@@ -22,13 +22,13 @@ returns-in-err-unless-there g c =
       through = rw p.1 refl;
     }
 
-pub returns-in-err-write : goal.returns-in-err-write
-returns-in-err-write g c =
+pub returns-in_err-write : goal.returns-in_err-write
+returns-in_err-write g c =
     let s = c.args.self.now in
     let m = g.S.RecordStore.meaning s.inner in
-    let p = err_from_is_err_and c.from-residual-in-err-write.result c.from-residual-in-err-write.ensures.1 in
-    let b = c.in-err-write.ensures in
-    let there = c.in-ok-unless-there.ensures in
+    let p = err_from_is_err_and c.from-residual-in_err-write.result c.from-residual-in_err-write.ensures.1 in
+    let b = c.in_err-write.ensures in
+    let there = c.in_ok-unless-there.ensures in
     let inside : Inside m c.args.number c.args.offset (length c.args.bytes.now) = (omega (arith, there.0, c.record-count-count.ensures), there.1) in
     record {
       beside = b.beside;
@@ -38,14 +38,14 @@ returns-in-err-write g c =
     }
 
 pub patch-requires : goal.patch-requires
-patch-requires g c = (within_held c.args.self.now.copies c.args.number c.in-Some.place c.keeps-sizes.ensures c.in-Some.ensures, c.in-ok-unless-there.ensures.1)
+patch-requires g c = (within_held c.args.self.now.copies c.args.number c.in-Some.place c.keeps-sizes.ensures c.in-Some.ensures, c.in_ok-unless-there.ensures.1)
 
 pub returns-in-Some : goal.returns-in-Some
 returns-in-Some g c =
     let s = c.args.self.now in
     let m = g.S.RecordStore.meaning s.inner in
-    let b = c.in-ok-write.ensures in
-    let there = c.in-ok-unless-there.ensures in
+    let b = c.in_ok-write.ensures in
+    let there = c.in_ok-unless-there.ensures in
     let lt : c.args.number < length m.records = omega (arith, there.0, c.record-count-count.ensures) in
     record {
       beside = b.beside;
@@ -58,18 +58,18 @@ returns-in-Some g c =
       through = b.answer.1;
     }
 
-pub returns-in-default : goal.returns-in-default
-returns-in-default g c =
+pub returns-in_default : goal.returns-in_default
+returns-in_default g c =
     let s = c.args.self.now in
     let m = g.S.RecordStore.meaning s.inner in
-    let b = c.in-ok-write.ensures in
-    let there = c.in-ok-unless-there.ensures in
+    let b = c.in_ok-write.ensures in
+    let there = c.in_ok-unless-there.ensures in
     let lt : c.args.number < length m.records = omega (arith, there.0, c.record-count-count.ensures) in
     record {
       beside = b.beside;
       answer = (
         (omega (arith, lt, length-laid s.copies m), there.1),
-        ap (laid s.copies) b.answer.1 ∙ laid_through s.copies m c.args.number c.args.offset c.args.bytes.now c.in-default.ensures,
+        ap (laid s.copies) b.answer.1 ∙ laid_through s.copies m c.args.number c.args.offset c.args.bytes.now c.in_default.ensures,
       );
       through = b.answer.1;
     }

@@ -2,8 +2,8 @@ use Rattle.std.proofs.Common.{arith, rules}
 use Rattle.cells.proofs.Hooks.{hook_head, hook_next}
 use Rattle.cells.proofs.chain.hook.Goals as goal
 
-pub offset-bounds-cells-before : goal.offset-bounds-cells-before
-offset-bounds-cells-before g c = let h = c.requires.inside c.if-before-eq-NO-CELL.false in search rules
+pub offset_bounds-cells-before : goal.offset_bounds-cells-before
+offset_bounds-cells-before g c = let h = c.requires.inside c.if-before-eq-NO-CELL.false in search rules
 
 pub returns-then-before-eq-NO-CELL : goal.returns-then-before-eq-NO-CELL
 returns-then-before-eq-NO-CELL g c = hook_head _ _ _ _ _ c.requires.bucket c.if-before-eq-NO-CELL.true

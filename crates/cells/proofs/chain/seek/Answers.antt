@@ -8,8 +8,8 @@ returns-then-is-empty g c = none_all g.K.Key.same g.K.Key.hashed g.met.K.Key.agr
 pub loop-at-init : goal.loop-at-init
 loop-at-init g c = passed_start g.K.Key.same g.K.Key.hashed g.met.K.Key.agrees _ _ _ _ c.requires c.hash.ensures.tells (search rules) c.index-cells-bucket.is
 
-pub offset-bounds-cells-at : goal.offset-bounds-cells-at
-offset-bounds-cells-at g c = let h = passed_inside g.K.Key.same g.K.Key.hashed g.met.K.Key.agrees _ _ _ c.loop-at.invariant c.loop-at-test.true in omega arith
+pub offset_bounds-cells-at : goal.offset_bounds-cells-at
+offset_bounds-cells-at g c = let h = passed_inside g.K.Key.same g.K.Key.hashed g.met.K.Key.agrees _ _ _ c.loop-at.invariant c.loop-at-test.true in omega arith
 
 pub bounds-cells-at : goal.bounds-cells-at
 bounds-cells-at g c = passed_inside g.K.Key.same g.K.Key.hashed g.met.K.Key.agrees _ _ _ c.loop-at.invariant c.loop-at-test.true

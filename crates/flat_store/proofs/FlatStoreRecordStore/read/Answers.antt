@@ -6,11 +6,11 @@ use Rattle.flat_store.specs.Flat.{room, flat}
 use Rattle.flat_store.proofs.EndToEnd.{length-flat, get_or-flat}
 use Rattle.flat_store.proofs.FlatStoreRecordStore.read.Goals as goal
 
-pub returns-in-err-unless-there : goal.returns-in-err-unless-there
-returns-in-err-unless-there c =
+pub returns-in_err-unless-there : goal.returns-in_err-unless-there
+returns-in_err-unless-there c =
     let s = c.args.self.now in
     let p = err_from_is_err_and c.from-residual.result c.from-residual.ensures.1 in
-    let b = c.in-err-unless-there.ensures in
+    let b = c.in_err-unless-there.ensures in
     record {
       beside = refl;
       kept = refl;
@@ -21,7 +21,7 @@ returns-in-err-unless-there c =
 pub returns : goal.returns
 returns c =
     let s = c.args.self.now in
-    let lt : c.args.number < min s.count (room s.bytes.now) = omega (arith, c.held-count.ensures, c.in-ok-unless-there.ensures.0) in
+    let lt : c.args.number < min s.count (room s.bytes.now) = omega (arith, c.held-count.ensures, c.in_ok-unless-there.ensures.0) in
     record {
       beside = refl;
       kept = refl;

@@ -3,10 +3,10 @@ use Rattle.paths.specs.Chains.{chained}
 use Rattle.paths.proofs.Chained.{chained-length, chained_at}
 use Rattle.paths.proofs.NameChain.get.Goals as goal
 
-pub returns-in-default : goal.returns-in-default
-returns-in-default c =
-    let count = chained-length c.args.self.now.path.now c.args.self.now.places c.args.self.now.len c.in-default.ensures.long in
-    omega (arith, c.in-default.ensures.value)
+pub returns-in_default : goal.returns-in_default
+returns-in_default c =
+    let count = chained-length c.args.self.now.path.now c.args.self.now.places c.args.self.now.len c.in_default.ensures.long in
+    omega (arith, c.in_default.ensures.value)
 
 pub returns : goal.returns
 returns c =

@@ -9,5 +9,5 @@ pub returns : goal.returns
 returns c =
     let us = c.args.path.now in
     let well : well_formed us ≡ true = sym c.if-not-is-well-formed.ensures.value in
-    let names = followed us c.in-ok-trail.trail c.in-ok-trail.ensures c.if-trail.false well in
+    let names = followed us c.in_ok-trail.trail c.in_ok-trail.ensures c.if-trail.false well in
     record { names = names; spelled = subst AllWellFormed (sym names.1) (names_well_formed us well); lent = refl }

@@ -9,7 +9,7 @@ use Rattle.trip_store.proofs.TripStoreRecordStore.write.Goals as goal
 pub returns-then-self-eq0 : goal.returns-then-self-eq0
 returns-then-self-eq0 g c =
     let m = g.S.RecordStore.meaning c.args.self.now.inner in
-    let there = c.in-ok-unless-there.ensures in
+    let there = c.in_ok-unless-there.ensures in
     let inside : Inside m c.args.number c.args.offset (length c.args.bytes.now) = (omega (arith, there.0, c.record-count-count.ensures), there.1) in
     let e = c.tripped.ensures in
     record {

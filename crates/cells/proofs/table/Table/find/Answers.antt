@@ -4,17 +4,17 @@ use Rattle.cells.proofs.Lookups.{lawful}
 use Rattle.cells.proofs.Tables.{value_there, no_value}
 use Rattle.cells.proofs.table.Table.find.Goals as goal
 
-pub returns-in-err-at : goal.returns-in-err-at
+pub returns-in_err-at : goal.returns-in_err-at
 unfolding lookup
-returns-in-err-at g c =
+returns-in_err-at g c =
     let laws = lawful {same = g.K.Key.same} g.met.K.Key.reflects g.met.K.Key.turns g.met.K.Key.joins in
-    c.from-residual.ensures ∙ no_value g.K.Key.hashed g.K.Key.same laws _ _ c.requires _ c.in-err-at.ensures
+    c.from-residual.ensures ∙ no_value g.K.Key.hashed g.K.Key.same laws _ _ c.requires _ c.in_err-at.ensures
 
 pub value-at-requires : goal.value-at-requires
-value-at-requires g c = c.in-ok-at.ensures.inside
+value-at-requires g c = c.in_ok-at.ensures.inside
 
 pub returns : goal.returns
 unfolding lookup
 returns g c =
     let laws = lawful {same = g.K.Key.same} g.met.K.Key.reflects g.met.K.Key.turns g.met.K.Key.joins in
-    value_there g.K.Key.hashed g.K.Key.same laws _ _ c.requires _ _ c.in-ok-at.ensures _ c.value-at.ensures
+    value_there g.K.Key.hashed g.K.Key.same laws _ _ c.requires _ _ c.in_ok-at.ensures _ c.value-at.ensures

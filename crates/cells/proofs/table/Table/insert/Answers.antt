@@ -17,8 +17,8 @@ put-requires g c =
     let s = size_held g.K.Key.hashed g.K.Key.same laws _ _ c.requires in
     record { kept = c.requires.kept; inside = let l = c.if-free-self.false in omega arith; free = none_of _ (c.requires.dense.free _ (omega arith)) }
 
-pub overflow-add-self : goal.overflow-add-self
-overflow-add-self g c =
+pub overflow_add-self : goal.overflow_add-self
+overflow_add-self g c =
     let laws = lawful {same = g.K.Key.same} g.met.K.Key.reflects g.met.K.Key.turns g.met.K.Key.joins in
     let s = size_held g.K.Key.hashed g.K.Key.same laws _ _ c.requires in let l = c.if-free-self.false in omega arith
 

@@ -16,8 +16,8 @@ fill-requires c =
     let lt : s.used < s.room = omega (arith, l.few, c.if-self.false) in
     rw (c.start-at.ensures, c.dir-entries-per-sector.ensures) (next_fits s.version _ _ s.used s.room l lt)
 
-pub overflow-add-self : goal.overflow-add-self
-overflow-add-self c = let l = laid_out c.args.self.now in omega (arith, room_numbered c.args.self.now.version _ _ _ _ l, l.few, c.if-self.false)
+pub overflow_add-self : goal.overflow_add-self
+overflow_add-self c = let l = laid_out c.args.self.now in omega (arith, room_numbered c.args.self.now.version _ _ _ _ l, l.few, c.if-self.false)
 
 pub invariant-of-self : goal.invariant-of-self
 invariant-of-self c =

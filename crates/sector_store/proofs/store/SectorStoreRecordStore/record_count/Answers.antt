@@ -4,8 +4,8 @@ use Rattle.sector_store.proofs.Held.{laid_out}
 use Rattle.sector_store.proofs.Changed.{length-sectored, used_numbered}
 use Rattle.sector_store.proofs.store.SectorStoreRecordStore.record_count.Goals as goal
 
-pub overflow-mul-result : goal.overflow-mul-result
-overflow-mul-result c =
+pub overflow_mul-result : goal.overflow_mul-result
+overflow_mul-result c =
     let s = c.args.self.now in
     let e : s.used * c.growth-size.result ≡ s.used * records_per_sector s.version = ap (λ (k : ℕ). s.used * k) c.growth-size.ensures in
     omega (arith, e, used_numbered s.version _ _ s.used s.room (laid_out s))
