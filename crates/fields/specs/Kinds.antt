@@ -1,8 +1,8 @@
 -- Types and colours, and the bytes that stand for them.
 --
---   type_byte k, type_of b      the byte of a type, and the type of a byte, if it has one
---   color_byte c, color_of b    the byte of a colour, and the colour of a byte, if it has one
---   is_storage, is_stream, is_root    whether a type is that one
+--   type_byte k, type_of b          the byte of a type, and the type of a byte, if it has one
+--   color_byte c, color_of b        the byte of a colour, and the colour of a byte, if it has one
+--   is_storage, is_stream, is_root  whether a type is that one
 use Rattle.std.specs.Prelude.{ℕ, Bool, true, false, cond, Some, None, Option, ◌==◌}
 use Rattle.fields.specs.declared.objtype.ObjType.{ObjType}
 use Rattle.fields.specs.declared.objtype.ObjType.TheVariants.{Unallocated, Storage, Stream, Root}

@@ -1,7 +1,7 @@
 -- Where links and times stand in a record.
 --
---   link_offset l      where a link stands
---   time_offset t      where a time stands
+--   link_offset l  where a link stands
+--   time_offset t  where a time stands
 use Rattle.std.specs.Prelude.{ℕ}
 use Rattle.fields.specs.declared.link.Link.{Link}
 use Rattle.fields.specs.declared.link.Link.TheVariants.{Left, Right, Child}

@@ -1,7 +1,7 @@
 -- Refusals: the number of each flaw, and where the field begins that is wrong.
 --
---   flaw_number f, flaw_offset f            the number and the offset of a flaw
---   refusal_number x, refusal_offset x      those of a refused record
+--   flaw_number f, flaw_offset f        the number and the offset of a flaw
+--   refusal_number x, refusal_offset x  those of a refused record
 use Rattle.std.specs.Prelude.{ℕ}
 use Rattle.fields.specs.declared.malformed.Flaw.{Flaw}
 use Rattle.fields.specs.declared.malformed.Flaw.TheVariants.{LongName, OddName, NoNull, BadUtf16, BadType, RootName, ForbiddenUnit, BadColor, BadLink, StreamChild, StreamClsid, StreamTime, StorageStart, StorageLength}

@@ -1,11 +1,11 @@
 -- Versions of a compound file, and how closely its records are held to the format.
 --
---   version_number v, version_of n   the number of a version, and the version of a number, if it has one
---   sector_length v         the length of a sector, in bytes
---   records_per_sector v     how many records a sector holds
---   length_mask v           the bits of a stream's length that count
---   cut v n                what counts of a stream's length: version 3 has 32 bits of it
---   strict m               whether nothing is put right
+--   version_number v, version_of n  the number of a version, and the version of a number, if it has one
+--   sector_length v                 the length of a sector, in bytes
+--   records_per_sector v            how many records a sector holds
+--   length_mask v                   the bits of a stream's length that count
+--   cut v n                         what counts of a stream's length: version 3 has 32 bits of it
+--   strict m                        whether nothing is put right
 use Rattle.std.specs.Prelude.{ℕ, ◌%◌, Bool, true, false, cond, Some, None, Option, ◌==◌}
 use Rattle.fields.specs.declared.version.Version.{Version}
 use Rattle.fields.specs.declared.version.Version.TheVariants.{V3, V4}

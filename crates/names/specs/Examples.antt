@@ -1,6 +1,6 @@
 -- Worked examples of names and their order.
 --
---   Examples        the table: each row is a fact about the definitions that the contracts use
+--   Examples  the table: each row is a fact about the definitions that the contracts use
 use Rattle.std.specs.Prelude.{◌≡◌, ℕ, [], ◌∷◌}
 use Rattle.std.specs.declared.cmp.Ordering.TheVariants.{Less, Equal, Greater}
 use Rattle.names.specs.Foldings.{KeepsAscii, ascii_fold}

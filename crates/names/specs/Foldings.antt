@@ -1,10 +1,10 @@
 -- Foldings: the maps from code points to numbers by which names are compared without regard to case.
 --
---   ascii_upper c     a to z go to A to Z, every other code to itself
---   paired ps c      the second of the first pair of ps whose first is c; c itself where there is none
---   ascii_fold        the folding that knows ASCII alone
---   table_fold ps     the folding that looks codes above 127 up in a list of pairs
---   KeepsAscii f     the law of every folding: below 128 it is ascii_upper
+--   ascii_upper c  a to z go to A to Z, every other code to itself
+--   paired ps c    the second of the first pair of ps whose first is c; c itself where there is none
+--   ascii_fold     the folding that knows ASCII alone
+--   table_fold ps  the folding that looks codes above 127 up in a list of pairs
+--   KeepsAscii f   the law of every folding: below 128 it is ascii_upper
 use Rattle.std.specs.Prelude.{◌≡◌, ℕ, ◌-◌, ◌<◌, cond, ◌&&◌, List, [], ◌∷◌, ◌==◌, nat_le, nat_lt}
 
 abbrev pub ascii_upper : ℕ → ℕ

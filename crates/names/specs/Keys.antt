@@ -1,9 +1,9 @@
 -- A name's key: how names are told apart.
 --
---   Key              a unit count and a list of folded code points
---   key_of fold us    the key of the name us under a folding
---   keyed k          the key that a `NameKey` holds in place
---   in_place k        the `NameKey` of a key: its codes, then zeros up to 31
+--   Key             a unit count and a list of folded code points
+--   key_of fold us  the key of the name us under a folding
+--   keyed k         the key that a `NameKey` holds in place
+--   in_place k      the `NameKey` of a key: its codes, then zeros up to 31
 use Rattle.std.specs.Prelude.{ℕ, List, map, length, take}
 use Rattle.names.specs.declared.key.NameKey.{NameKey}
 use Rattle.names.specs.Padding.{padded}

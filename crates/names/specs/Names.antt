@@ -1,10 +1,10 @@
 -- Names: up to 31 units, counted, in place.
 --
 --   spelled n      the units of a name
---   name_of us      the name of a list of at most 31 units: the units, then zeros up to 31
+--   name_of us     the name of a list of at most 31 units: the units, then zeros up to 31
 --   forbidden u    u is one of / \ : !
 --   allowed us     none of the units is forbidden
---   name_number e   the number of a refusal
+--   name_number e  the number of a refusal
 use Rattle.std.specs.Prelude.{ℕ, Bool, true, not, ◌&&◌, ◌||◌, List, [], ◌∷◌, length, take, ◌==◌}
 use Rattle.names.specs.Padding.{padded}
 use Rattle.names.specs.declared.name.Name.{Name}

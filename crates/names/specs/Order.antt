@@ -1,13 +1,13 @@
 -- The order of names in a directory: shorter first, and names of one length by their folded code points.
 --
---   numbers m n       how two numbers compare
---   lexical xs ys     how two lists compare: by the first place where they differ; a list before its longer ones
---   order j k         how two keys compare: by unit count, then by folded code points
---   First xs ys       xs stands before ys in the order of lists, as a relation
---   Before j k        j stands before k in the order of keys, as a relation
---   Precedes fold     the relation on names, by their keys
---   compared fold     the answer on names, by their keys
---   Ordered fold      what the order of names keeps under a folding: it is total
+--   numbers m n    how two numbers compare
+--   lexical xs ys  how two lists compare: by the first place where they differ; a list before its longer ones
+--   order j k      how two keys compare: by unit count, then by folded code points
+--   First xs ys    xs stands before ys in the order of lists, as a relation
+--   Before j k     j stands before k in the order of keys, as a relation
+--   Precedes fold  the relation on names, by their keys
+--   compared fold  the answer on names, by their keys
+--   Ordered fold   what the order of names keeps under a folding: it is total
 use Rattle.std.specs.Prelude.{◌≡◌, ℕ, ◌<◌, cond, ◌⊎◌, List, [], ◌∷◌, ◌==◌, nat_lt}
 use Rattle.std.specs.declared.cmp.Ordering.TheVariants.{Less, Equal, Greater}
 use Rattle.std.specs.declared.cmp.Ordering.{Ordering}

@@ -1,14 +1,14 @@
 -- What a store's calls answer, for a store that meant m before the call and m' after it.
 --
---   Given m n bs               the record n is there, and bs is it
---   NotGiven l p m n f         the fault f of reading the record n: where the record is there it is one of p; where it is
---                              not, the layer l names it itself
---   Inside m n o k             the record n is there, and k bytes from the offset o on are in it
+--   Given m n bs                 the record n is there, and bs is it
+--   NotGiven l p m n f           the fault f of reading the record n: where the record is there it is one of p; where it is
+--                                not, the layer l names it itself
+--   Inside m n o k               the record n is there, and k bytes from the offset o on are in it
 --   NotWritten l p m n o k f m'  the fault f of writing k bytes: where they are inside it is one of p, and the record n may
---                              be anything of its size; where not, nothing is changed, and the layer l names it itself
---   Grew m m' g                growing without a fault: no room exactly where no growth is left, else freed records
---   NotGrown p m m' f          the fault f of growing, one of p: the old records stand in front of whatever there is now
---   NotPosted p m m' f         the fault f of posting, one of p: the count may be anything
+--                                be anything of its size; where not, nothing is changed, and the layer l names it itself
+--   Grew m m' g                  growing without a fault: no room exactly where no growth is left, else freed records
+--   NotGrown p m m' f            the fault f of growing, one of p: the old records stand in front of whatever there is now
+--   NotPosted p m m' f           the fault f of posting, one of p: the count may be anything
 use Rattle.std.specs.Prelude.{◌≡◌, ℕ, ◌+◌, ◌-◌, ◌<◌, ◌≤◌, List, [], length, replicate, slice_index_or}
 use Rattle.stores.specs.declared.fault.Fault.{Fault}
 use Rattle.stores.specs.declared.fault.Layer.{Layer}

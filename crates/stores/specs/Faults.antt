@@ -1,10 +1,10 @@
 -- Faults of a store, refusals to make one, and their numbers.
 --
---   layer_number l, cause_number c   the numbers by which a fault is told
---   missing l n o    the fault of the layer l that has no record n, or not so many bytes from the offset o on
---   tripped l n o    the fault of the layer l that was made to fail at record n, offset o
---   unfit_number u   the number of a refusal to make a store
---   At f n o         the fault f tells of record n, offset o
+--   layer_number l, cause_number c  the numbers by which a fault is told
+--   missing l n o                   the fault of the layer l that has no record n, or not so many bytes from the offset o on
+--   tripped l n o                   the fault of the layer l that was made to fail at record n, offset o
+--   unfit_number u                  the number of a refusal to make a store
+--   At f n o                        the fault f tells of record n, offset o
 use Rattle.std.specs.Prelude.{◌≡◌, ℕ}
 use Rattle.stores.specs.declared.fault.Layer.{Layer}
 use Rattle.stores.specs.declared.fault.Layer.TheVariants.{Flat, Sector, Cache, Trip}

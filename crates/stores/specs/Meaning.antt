@@ -1,16 +1,16 @@
 -- What a store of records means, and its changes.
 --
---   Meaning             version, records, records to a growth, growths left, and the posted count where one is kept
+--   Meaning              version, records, records to a growth, growths left, and the posted count where one is kept
 --   with_record m n r    the record n is r, and all else stands
 --   with_bytes m n o bs  the bytes bs stand in the record n from the offset o on, and all else stands
 --   with_growth m rs l   the records rs follow the others, l growths are left, and all else stands
 --   with_count m c       the posted count is c, where one is kept, and all else stands
 --   growths_held m       how many growths the records make
---   freed               the record of a free entry
---   Whole m             records have 128 bytes, a growth adds at least one, the records come in whole growths, and their
---                       count is a number of 32 bits
+--   freed                the record of a free entry
+--   Whole m              records have 128 bytes, a growth adds at least one, the records come in whole growths, and their
+--                        count is a number of 32 bits
 --   max_records          how many records have a number of their own
---   Beside              what lies beside the meaning in lent memory: who lent it, a list of places, the bytes outside
+--   Beside               what lies beside the meaning in lent memory: who lent it, a list of places, the bytes outside
 use Rattle.std.specs.Prelude.{◌≡◌, ℕ, ◌+◌, ◌/◌, ◌%◌, ◌^◌, ◌<◌, ◌≤◌, List, [], ◌++◌, length, Option, slice_index_or, slice_set}
 use Rattle.std.proofs.Math.Seq.{paste}
 use Rattle.std.specs.Option.{option_map}
