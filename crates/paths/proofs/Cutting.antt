@@ -1,5 +1,5 @@
 -- The pieces of a path from one separator to the next.
-use Rattle.std.proofs.Common.{◌≡◌, ℕ, suc, ◌+◌, ◌-◌, ◌<◌, ◌≤◌, min, Bool, true, false, cond, eqb, ltb, leb, ◌⊎◌, List, [], ◌∷◌, length, get_or, take, drop, sym, refl, ap, ◌∙◌, ap₂, inl, inr, ⊎_elim, add-zero, add-one, arith}
+use Rattle.std.proofs.Common.{◌≡◌, ℕ, suc, ◌+◌, ◌-◌, ◌<◌, ◌≤◌, min, Bool, true, false, cond, eqb, ltb, leb, ◌⊎◌, List, [], ◌∷◌, length, get_or, take, drop, sym, refl, ap, ◌∙◌, ap₂, inl, inr, ⊎_elim, arith}
 use Rattle.std.proofs.lemmas.List.{at_drop_more, at_drop_all, drop-drop, length-drop, length-take-le, take_rest, drop_all}
 use Rattle.std.proofs.lemmas.Bool.{eq-eqb, ne_eqb, lt-ltb, le-ltb, le-leb, lt-leb, cases_lt}
 use Rattle.paths.specs.Separators.{until_separator}
@@ -44,13 +44,13 @@ rest_later at u us n = ⊎_elim inside past (cases_lt n (length us))
 
 cut_front : (at : ℕ) (us : List ℕ) → cut at us ≡ record { place = at; units = take (until_separator us) us } ∷ rest at us (until_separator us)
 cut_front at [] = refl
-cut_front at (u ∷ us) = by-test (eqb u 47) (cut_front (at + 1) us)
+cut_front at (u ∷ us) = by_test (eqb u 47) (cut_front (at + 1) us)
   where
-    by-test : (b : Bool) → cut (at + 1) us ≡ record { place = at + 1; units = take (until_separator us) us } ∷ rest (at + 1) us (until_separator us)
+    by_test : (b : Bool) → cut (at + 1) us ≡ record { place = at + 1; units = take (until_separator us) us } ∷ rest (at + 1) us (until_separator us)
         → cond b (record { place = at; units = [] } ∷ cut (at + 1) us) (longer at u (cut (at + 1) us))
         ≡ record { place = at; units = take (cond b 0 (suc (until_separator us))) (u ∷ us) } ∷ rest at (u ∷ us) (cond b 0 (suc (until_separator us)))
-    by-test true ih = let l : ltb 0 (length (u ∷ us)) ≡ true = lt-ltb _ _ (omega arith) in let e : at + 0 + 1 ≡ at + 1 = omega arith in rw (l, e) refl
-    by-test false ih = ap (longer at u) ih ∙ ap (λ ps. record { place = at; units = u ∷ take (until_separator us) us } ∷ ps) (rest_later at u us (until_separator us))
+    by_test true ih = let l : ltb 0 (length (u ∷ us)) ≡ true = lt-ltb _ _ (omega arith) in let e : at + 0 + 1 ≡ at + 1 = omega arith in rw (l, e) refl
+    by_test false ih = ap (longer at u) ih ∙ ap (λ ps. record { place = at; units = u ∷ take (until_separator us) us } ∷ ps) (rest_later at u us (until_separator us))
 
 -- the piece that begins at a place within the path, and those from the place after its end on
 pub pieces_next : (us : List ℕ) (start end : ℕ) → start ≤ length us → end ≡ start + until_separator (drop start us) → pieces_from us start ≡ record { place = start; units = take (end - start) (drop start us) } ∷ pieces_from us (end + 1)
@@ -90,12 +90,12 @@ part_capped us start len s n e f =
 -- a path has at most one piece more than units
 pub few_pieces : (at : ℕ) (us : List ℕ) → length (cut at us) ≤ length us + 1
 few_pieces at [] = omega arith
-few_pieces at (u ∷ us) = by-test (eqb u 47) (few_pieces (at + 1) us)
+few_pieces at (u ∷ us) = by_test (eqb u 47) (few_pieces (at + 1) us)
   where
     same : (ps : List Piece) → length (longer at u ps) ≡ length ps
     same [] = refl
     same (p ∷ ps) = refl
 
-    by-test : (b : Bool) → length (cut (at + 1) us) ≤ length us + 1 → length (cond b (record { place = at; units = [] } ∷ cut (at + 1) us) (longer at u (cut (at + 1) us))) ≤ length (u ∷ us) + 1
-    by-test true h = omega arith
-    by-test false h = rw same (omega arith)
+    by_test : (b : Bool) → length (cut (at + 1) us) ≤ length us + 1 → length (cond b (record { place = at; units = [] } ∷ cut (at + 1) us) (longer at u (cut (at + 1) us))) ≤ length (u ∷ us) + 1
+    by_test true h = omega arith
+    by_test false h = rw same (omega arith)

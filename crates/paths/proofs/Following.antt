@@ -1,12 +1,12 @@
 -- A path followed piece by piece: what the whole path does is what its rest does from the names met so far on.
-use Rattle.std.proofs.Common.{◌≡◌, ℕ, zero, suc, ◌+◌, ◌-◌, ◌<◌, ◌≤◌, max, Bool, true, false, cond, ltb, ◌⊎◌, List, [], ◌∷◌, ◌++◌, map, length, take, set, Some, None, sym, refl, ap, ◌∙◌, subst, ap₂, inl, inr, ⊎_elim, append_assoc, arith}
+use Rattle.std.proofs.Common.{◌≡◌, ℕ, zero, suc, ◌+◌, ◌-◌, ◌<◌, ◌≤◌, max, Bool, true, false, cond, ltb, List, [], ◌∷◌, ◌++◌, map, length, take, set, None, sym, refl, ap, ◌∙◌, subst, ap₂, ⊎_elim, append_assoc, arith}
 use Rattle.std.proofs.lemmas.List.{length_push, length-set, length-take-le, take-take, take_all, take-append-le, take-map, take_more_set, map_push, append-nil}
 use Rattle.std.proofs.lemmas.Bool.{cond_both, ltb-true, ltb-false, le-ltb, cases_Bool, true≢false}
 use Rattle.paths.specs.declared.Component.{Component}
 use Rattle.paths.specs.declared.Component.TheVariants.{CurDir, ParentDir, Normal}
 use Rattle.paths.specs.declared.Place.{Place}
 use Rattle.paths.specs.declared.trail.Trail.{Trail}
-use Rattle.paths.specs.Pieces.{Piece, Walk, nothing, parent, kind_of, climb, enter_at, enter, walk, deepest, cut, resolved, path_refusal}
+use Rattle.paths.specs.Pieces.{Piece, nothing, parent, kind_of, climb, enter_at, enter, walk, deepest, cut, resolved, path_refusal}
 use Rattle.names.specs.Units.{well_formed}
 use Rattle.paths.specs.Chains.{piece_at}
 use Rattle.paths.specs.Trails.{entered, Holds, Onward}

@@ -1,7 +1,7 @@
 -- The most names that a path holds at any moment are those that some of its fronts leave.
-use Rattle.std.proofs.Common.{◌≡◌, ℕ, zero, suc, ◌+◌, ◌-◌, ◌<◌, ◌≤◌, max, Bool, true, false, cond, ◌⊎◌, List, [], ◌∷◌, length, take, sym, refl, ap, ◌∙◌, inl, inr, ⊎_elim, arith}
+use Rattle.std.proofs.Common.{◌≡◌, ℕ, zero, suc, ◌+◌, ◌-◌, ◌<◌, ◌≤◌, max, Bool, true, false, cond, ◌⊎◌, List, [], ◌∷◌, length, take, refl, ◌∙◌, inl, inr, arith}
 use Rattle.std.proofs.lemmas.Bool.{cases_lt}
-use Rattle.paths.specs.Pieces.{Piece, Walk, nothing, parent, climb, enter_at, enter, walk, deepest, held_after, Most}
+use Rattle.paths.specs.Pieces.{Piece, Walk, nothing, parent, climb, enter_at, enter, walk, deepest, Most}
 use Rattle.paths.proofs.Following.{deepest_least}
 
 -- how many names a walk leaves, from d names on

@@ -1,7 +1,7 @@
 -- The names of a well-formed path are well formed: a separator is no surrogate, so no pair is cut apart.
-use Rattle.std.proofs.Common.{◌≡◌, ℕ, zero, suc, ◌+◌, Bool, true, false, cond, not, ◌&&◌, eqb, leb, List, [], ◌∷◌, sym, refl, ap, ◌∙◌, arith}
-use Rattle.std.proofs.lemmas.Bool.{and_parts, eqb-true, ne_eqb, leb-true}
-use Rattle.names.specs.Units.{high, low, surrogate, joined, codes, well_formed, Spells, nothing, single, pair}
+use Rattle.std.proofs.Common.{◌≡◌, ℕ, zero, suc, ◌+◌, Bool, true, false, cond, ◌&&◌, eqb, leb, List, [], ◌∷◌, arith}
+use Rattle.std.proofs.lemmas.Bool.{and_parts, ne_eqb, leb-true}
+use Rattle.names.specs.Units.{high, low, surrogate, joined, well_formed, Spells, nothing, single, pair}
 use Rattle.paths.specs.Pieces.{Piece, longer, cut, enter_at, walk, AllWellFormed}
 use Rattle.paths.specs.Pieces.{nothing as dropped, parent}
 use Rattle.names.proofs.Spelling.{spells_codes, spelled_well}
@@ -25,16 +25,16 @@ longer_pair at h l (p ∷ ps) a b (s, r) = ((joined h l ∷ s.0, pair a b s.1), 
 
 spelled_pieces : (at : ℕ) {us cs : List ℕ} → Spells us cs → AllSpelled (cut at us)
 spelled_pieces at nothing = (([], nothing), tt)
-spelled_pieces at (single {u} {us} {cs} n s) = by-test (eqb u 47) (spelled_pieces (at + 1) s)
+spelled_pieces at (single {u} {us} {cs} n s) = by_test (eqb u 47) (spelled_pieces (at + 1) s)
   where
-    by-test : (b : Bool) → AllSpelled (cut (at + 1) us) → AllSpelled (cond b (record { place = at; units = [] } ∷ cut (at + 1) us) (longer at u (cut (at + 1) us)))
-    by-test true a = (([], nothing), a)
-    by-test false a = longer_single at u (cut (at + 1) us) n a
+    by_test : (b : Bool) → AllSpelled (cut (at + 1) us) → AllSpelled (cond b (record { place = at; units = [] } ∷ cut (at + 1) us) (longer at u (cut (at + 1) us)))
+    by_test true a = (([], nothing), a)
+    by_test false a = longer_single at u (cut (at + 1) us) n a
 spelled_pieces at (pair {h} {l} {us} {cs} a b s) =
-    rw (not_separator (leb h 0xdbff) h a) (rw (not-separator-low l b) (longer_pair at h l (cut (at + 1 + 1) us) a b (spelled_pieces (at + 1 + 1) s)))
+    rw (not_separator (leb h 0xdbff) h a) (rw (not_separator_low l b) (longer_pair at h l (cut (at + 1 + 1) us) a b (spelled_pieces (at + 1 + 1) s)))
   where
-    not-separator-low : (u : ℕ) → low u ≡ true → eqb u 47 ≡ false
-    not-separator-low u h = let m = leb-true 0xdc00 u (and_parts (leb 0xdc00 u) (leb u 0xdfff) h).0 in ne_eqb u 47 (λ e. omega arith)
+    not_separator_low : (u : ℕ) → low u ≡ true → eqb u 47 ≡ false
+    not_separator_low u h = let m = leb-true 0xdc00 u (and_parts (leb 0xdc00 u) (leb u 0xdfff) h).0 in ne_eqb u 47 (λ e. omega arith)
 
 -- the names that are left are among the pieces
 spelled_names : (ps : List Piece) → AllSpelled ps → AllWellFormed (walk ps).names

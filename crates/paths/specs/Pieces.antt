@@ -14,7 +14,7 @@
 --   resolved us      the names that a path leaves
 --   path_number e     the number of a refusal
 --   AllWellFormed    each of the pieces is UTF-16
-use Rattle.std.specs.Prelude.{◌≡◌, ℕ, zero, suc, ◌+◌, ◌-◌, ◌≤◌, max, Bool, true, false, cond, not, ◌&&◌, ◌||◌, List, [], ◌∷◌, length, take, Some, None, Option, ◌==◌, nat_lt}
+use Rattle.std.specs.Prelude.{◌≡◌, ℕ, zero, suc, ◌+◌, ◌-◌, ◌≤◌, max, Bool, true, false, cond, ◌&&◌, List, [], ◌∷◌, length, take, Some, None, Option, ◌==◌, nat_lt}
 use Rattle.paths.specs.declared.PathError.{PathError}
 use Rattle.paths.specs.declared.PathError.TheVariants.{BadUtf16, AboveRoot, TooManyNames}
 use Rattle.paths.specs.declared.Component.{Component}

@@ -1,4 +1,6 @@
 //! Paths: names from the root down, with `/` between them.
+#![tactic(auto)]
+
 mod chain;
 pub mod examples;
 mod reader;

@@ -8,6 +8,6 @@ use Rattle.paths.proofs.chain.name_chain_from_path.Goals as goal
 pub returns : goal.returns
 returns c =
     let us = c.args.path.now in
-    let well : well_formed us ≡ true = sym c.if-not-is-well-formed.ensures.value in
+    let well : well_formed us ≡ true = sym c.if-not-is_well_formed.ensures.value in
     let names = followed us c.in_ok-trail.trail c.in_ok-trail.ensures c.if-trail.false well in
     record { names = names; spelled = subst AllWellFormed (sym names.1) (names_well_formed us well); lent = refl }
