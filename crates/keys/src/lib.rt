@@ -1,4 +1,6 @@
 //! Kinds of key for a table: which keys are the same, and a hash.
+#![tactic(auto)]
+
 pub mod child;
 mod hashing;
 pub mod key;
