@@ -1,4 +1,6 @@
 //! Records of a compound file's directory: 128 bytes each, read and written.
+#![tactic(auto)]
+
 mod bytes;
 pub mod direntry;
 pub mod laws;

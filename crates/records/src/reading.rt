@@ -120,7 +120,7 @@ fn copy_clsid(bytes: &[u8; DIR_ENTRY_LEN]) -> [u8; 16]
 fn is_nil(clsid: &[u8]) -> bool
     ensures { result ≡ bytes_eq clsid.now nil }
 {
-    clsid == &[0; 16]
+    clsid == [0; 16].as_slice()
 }
 
 /// A stream has no CLSID.

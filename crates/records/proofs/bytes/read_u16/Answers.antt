@@ -3,4 +3,4 @@ use Rattle.records.proofs.NumbersAt.{u16_at_bytes}
 use Rattle.records.proofs.bytes.read_u16.Goals as goal
 
 pub returns : goal.returns
-returns c = c.from-le-bytes.ensures ∙ u16_at_bytes c.args.bytes.now c.args.at (search rules)
+returns c = c.from_le_bytes.ensures ∙ u16_at_bytes c.args.bytes.now c.args.at (search rules)

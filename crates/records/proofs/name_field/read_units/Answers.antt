@@ -10,7 +10,7 @@ more bs us i x h e inv k l = ap (λ y. get_or (set us i y) k 0) e ∙ fill_by_mo
 
 pub loop-i-preserved : goal.loop-i-preserved
 loop-i-preserved c =
-    (simp length-set c.loop-i.invariant.0, more c.args.bytes.now c.loop-i.field c.loop-i.i _ (omega arith) c.read-u16.ensures c.loop-i.invariant.1)
+    (simp length-set c.loop-i.invariant.0, more c.args.bytes.now c.loop-i.field c.loop-i.i _ (omega arith) c.read_u16.ensures c.loop-i.invariant.1)
 
 pub returns : goal.returns
 returns c = units_read c.args.bytes.now c.loop-i.field c.told-bytes c.loop-i.invariant.0 (λ k h. c.loop-i.invariant.1 k (omega arith))

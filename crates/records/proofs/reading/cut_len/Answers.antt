@@ -11,4 +11,4 @@ masked V3 n m h e = ap (bit_and n) e ∙ and_mask n 32
 masked V4 n m h e = let small : n % 18446744073709551616 ≡ n = omega arith in ap (bit_and n) e ∙ and_mask n 64 ∙ small
 
 pub returns : goal.returns
-returns c = masked c.args.version c.args.length c.stream-len-mask.result (omega arith) c.stream-len-mask.ensures
+returns c = masked c.args.version c.args.length c.stream_len_mask.result (omega arith) c.stream_len_mask.ensures

@@ -5,7 +5,7 @@ use Rattle.records.proofs.writing.put_stamps.Goals as goal
 pub returns : goal.returns
 returns c =
     let long : 80 + length c.args.entry.now.clsid ≡ 96 = search rules in
-    after_4 c.args.bytes.now c.put.new.bytes c.put-u32.new.bytes c.put-u64.new.bytes c.put-u64-2.new.bytes
+    after_4 c.args.bytes.now c.put.new.bytes c.put_u32.new.bytes c.put_u64.new.bytes c.put_u64-2.new.bytes
     c.args.entry.now.clsid _ _ _ 80 96 100 108 116
     (subst (λ n. take n c.put.new.bytes ≡ take 80 c.args.bytes.now ++ c.args.entry.now.clsid) long c.put.ensures)
-    c.put-u32.ensures c.put-u64.ensures c.put-u64-2.ensures
+    c.put_u32.ensures c.put_u64.ensures c.put_u64-2.ensures
