@@ -1,5 +1,5 @@
 -- A fault that changes nothing is one of those that may change something.
-use Rattle.std.proofs.Common.{◌≡◌, ℕ, ◌<◌, List, [], length, get_or, sym, refl, ap}
+use Rattle.std.proofs.Common.{◌≡◌, ℕ, ◌<◌, List, [], get_or, sym, ap}
 use Rattle.std.proofs.lemmas.List.{set-get_or, append-nil}
 use Rattle.stores.specs.declared.fault.Fault.{Fault}
 use Rattle.stores.specs.declared.fault.Layer.{Layer}

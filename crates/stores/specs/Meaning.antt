@@ -11,7 +11,7 @@
 --                        count is a number of 32 bits
 --   max_records          how many records have a number of their own
 --   Beside               what lies beside the meaning in lent memory: who lent it, a list of places, the bytes outside
-use Rattle.std.specs.Prelude.{◌≡◌, ℕ, ◌+◌, ◌/◌, ◌%◌, ◌^◌, ◌<◌, ◌≤◌, List, [], ◌++◌, length, Option, slice_index_or, slice_set}
+use Rattle.std.specs.Prelude.{◌≡◌, ℕ, ◌/◌, ◌%◌, ◌^◌, ◌<◌, ◌≤◌, List, [], ◌++◌, length, Option, slice_index_or, slice_set}
 use Rattle.std.proofs.Math.Seq.{paste}
 use Rattle.std.specs.Option.{option_map}
 use Rattle.fields.specs.declared.version.Version.{Version}

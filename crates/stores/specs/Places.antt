@@ -5,7 +5,7 @@
 --   Fit at n len        the records 0 to n - 1 lie in a memory of len bytes
 --   Apart at n          they lie in different bytes
 --   outside c bs        the bytes with 0 at each place of which c is true: what lies outside those places
-use Rattle.std.specs.Prelude.{◌≡◌, ℕ, ◌+◌, ◌<◌, ◌≤◌, Bool, cond, ◌⊎◌, List, map, length, take, drop, ◌≢◌, slice_index}
+use Rattle.std.specs.Prelude.{ℕ, ◌+◌, ◌<◌, ◌≤◌, Bool, cond, ◌⊎◌, List, map, length, take, drop, ◌≢◌, slice_index}
 use Rattle.std.specs.List.{range_with_len}
 
 abbrev pub record_at : List ℕ → ℕ → List ℕ

@@ -3,6 +3,8 @@
 //! `store` has the interface on which the directory is proved for every store, `fault` what a store call can fail
 //! with, `growth` what growing answers, `unfit` why a store cannot be made, and `bytes` the
 //! copying between records and lent bytes.
+#![tactic(auto)]
+
 pub mod bytes;
 pub mod fault;
 pub mod growth;

@@ -5,5 +5,5 @@ use Rattle.stores.proofs.bytes.copy_in.Goals as goal
 pub returns : goal.returns
 returns c = record {
   copied = λ h. search (rules, put_mid-paste);
-  else-kept = λ h. absurd (omega arith);
+  else_kept = λ h. absurd (omega arith);
 }

@@ -3,4 +3,4 @@ use Rattle.stores.proofs.Freed.{written-freed}
 use Rattle.stores.proofs.bytes.freed_record.Goals as goal
 
 pub returns : goal.returns
-returns c = c.to-bytes.ensures ∙ written-freed c.unallocated.result c.unallocated.ensures
+returns c = c.to_bytes.ensures ∙ written-freed c.unallocated.result c.unallocated.ensures
