@@ -1,4 +1,6 @@
 //! Replays recorded answers of the Rust crate for the order of names, their keys and paths, and counts those that differ.
+#![tactic(auto)]
+
 mod case;
 mod tally;
 
