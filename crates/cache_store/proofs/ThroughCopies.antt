@@ -1,15 +1,15 @@
 -- What the store below answers, as the store with copies laid over it answers it.
-use Rattle.std.proofs.Common.{◌≡◌, ℕ, ◌+◌, ◌-◌, ◌*◌, ◌/◌, ◌^◌, ◌<◌, ◌≤◌, Bool, true, false, cond, ltb, ◌⊎◌, List, [], ◌∷◌, ◌++◌, length, get_or, replicate, Ok, Err, Result, sym, refl, ap, ◌∙◌, subst, inl, inr, ⊎_elim, arith, le-ltb, lt-ltb, MatchResult}
+use Rattle.std.proofs.Common.{◌≡◌, ℕ, ◌+◌, ◌-◌, ◌/◌, ◌^◌, ◌<◌, ◌≤◌, Bool, cond, ltb, ◌⊎◌, List, [], length, get_or, replicate, Ok, Err, Result, sym, ap, ◌∙◌, inl, inr, ⊎_elim, arith, le-ltb, lt-ltb, MatchResult}
 use Rattle.std.proofs.lemmas.List.{length-append}
 use Rattle.std.proofs.lemmas.Bool.{cases_lt}
 use Rattle.stores.specs.declared.fault.Fault.{Fault}
 use Rattle.stores.specs.declared.fault.Layer.{Layer}
 use Rattle.stores.specs.declared.growth.Growth.{Growth}
 use Rattle.stores.specs.declared.growth.Growth.TheVariants.{NoRoom, Grown}
-use Rattle.stores.specs.Meaning.{Meaning, Whole, with_record, with_bytes, with_growth, with_count, growths_held, freed}
+use Rattle.stores.specs.Meaning.{Meaning, Whole, with_count, growths_held, freed}
 use Rattle.stores.specs.Answers.{NotGiven, Inside, NotWritten, Grew, NotGrown, NotPosted}
 use Rattle.cache_store.specs.declared.copies.Copies.{Copies}
-use Rattle.cache_store.specs.Copies.{numbers, laid, Lacks, First, added, Remembers, no_number, Sizes}
+use Rattle.cache_store.specs.Copies.{numbers, laid, Lacks, added, Remembers, no_number, Sizes}
 use Rattle.cache_store.proofs.Kept.{length-laid, laid-added, laid_free, laid_forgotten, laid_grown, laid_behind}
 
 -- a count passes through

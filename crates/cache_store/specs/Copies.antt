@@ -14,7 +14,7 @@
 use Rattle.std.specs.Prelude.{◌≡◌, ℕ, ◌+◌, ◌*◌, ◌<◌, ◌≤◌, min, List, [], ◌∷◌, length, take, ◌≢◌, slice_index, slice_index_or, slice_set}
 use Rattle.std.proofs.Math.Seq.{paste}
 use Rattle.stores.specs.Meaning.{Meaning}
-use Rattle.stores.specs.Places.{record_at, records_at}
+use Rattle.stores.specs.Places.{records_at}
 use Rattle.cache_store.specs.declared.copies.Copies.{Copies}
 
 abbrev pub no_number : ℕ

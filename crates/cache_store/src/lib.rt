@@ -1,4 +1,6 @@
 //! A store that keeps copies of records that were read, over any store.
+#![tactic(auto)]
+
 ghost use Rattle.std.specs.Prelude.{◌≡◌, length, MatchResult};
 ghost use Rattle.stores.specs.declared.fault.Layer.TheVariants.{Cache};
 ghost use Rattle.stores.specs.Meaning.{with_bytes};

@@ -1,11 +1,11 @@
 -- Records end to end lie in the bytes and apart from each other, and what a write and a growth make of them.
-use Rattle.std.proofs.Common.{◌≡◌, ℕ, ◌+◌, ◌-◌, ◌*◌, ◌/◌, ◌<◌, ◌≤◌, min, Bool, true, ltb, ◌⊎◌, List, [], ◌∷◌, ◌++◌, length, get_or, set, replicate, sym, refl, ap, ◌∙◌, inl, inr, ⊎_elim, div-add-mod', arith, rules, lt-ltb}
+use Rattle.std.proofs.Common.{◌≡◌, ℕ, ◌+◌, ◌-◌, ◌*◌, ◌/◌, ◌<◌, ◌≤◌, min, ltb, List, [], ◌∷◌, ◌++◌, length, get_or, replicate, ap, ◌∙◌, inl, inr, ⊎_elim, div-add-mod', arith, lt-ltb}
 use native.Mathlib.Nat.{mod-one}
 use lib.Seq.{paste}
 use Rattle.std.proofs.lemmas.Bool.{cases_lt}
 use Rattle.fields.specs.declared.version.Version.{Version}
-use Rattle.stores.specs.Meaning.{Meaning, Whole, with_bytes, with_growth, freed}
-use Rattle.stores.specs.Places.{record_at, records_at, Fit, Apart, outside}
+use Rattle.stores.specs.Meaning.{Whole, with_bytes, with_growth, freed}
+use Rattle.stores.specs.Places.{record_at, records_at, Fit, Apart}
 use Rattle.stores.proofs.Freed.{length-freed}
 use Rattle.stores.proofs.Pasted.{length_pasted}
 use Rattle.stores.proofs.Placed.{length-records_at, get_or-records_at, sized_records_at, written_records, added_record, outside_stands}

@@ -1,4 +1,6 @@
 //! A store of records end to end in lent bytes.
+#![tactic(auto)]
+
 ghost use Rattle.std.specs.Prelude.{◌≡◌, ◌<◌, ◌≤◌, min, MatchResult};
 ghost use Rattle.stores.specs.declared.fault.Layer.TheVariants.{Flat};
 ghost use Rattle.stores.specs.declared.unfit.Unfit.TheVariants.{BadCount};

@@ -1,4 +1,6 @@
 //! A store that is made to fail, over any store.
+#![tactic(auto)]
+
 ghost use Rattle.std.specs.Prelude.{◌≡◌, ◌-◌, ◌<◌, length, MatchResult};
 ghost use Rattle.stores.specs.declared.fault.Layer.TheVariants.{Trip};
 ghost use Rattle.stores.specs.Meaning.{with_bytes, with_count, growths_held};

@@ -3,4 +3,4 @@ use Rattle.cache_store.proofs.Kept.{length-laid}
 use Rattle.cache_store.proofs.CacheStoreRecordStore.record_count.Goals as goal
 
 pub returns : goal.returns
-returns g c = c.record-count.ensures ∙ sym (length-laid c.args.self.now.copies (g.S.RecordStore.meaning c.args.self.now.inner))
+returns g c = c.record_count.ensures ∙ sym (length-laid c.args.self.now.copies (g.S.RecordStore.meaning c.args.self.now.inner))

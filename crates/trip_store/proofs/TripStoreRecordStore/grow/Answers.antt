@@ -1,4 +1,4 @@
-use Rattle.std.proofs.Common.{◌≡◌, ◌<◌, Err, refl, ap, inl, arith, rules}
+use Rattle.std.proofs.Common.{◌<◌, Err, refl, ap, inl, arith}
 use Rattle.stores.specs.declared.fault.Fault.{Fault}
 use Rattle.stores.proofs.Unchanged.{ungrown}
 use Rattle.trip_store.specs.Trips.{TripsOr}
@@ -7,7 +7,7 @@ use Rattle.trip_store.proofs.TripStoreRecordStore.grow.Goals as goal
 pub returns-then-self-eq0 : goal.returns-then-self-eq0
 returns-then-self-eq0 g c =
     let m = g.S.RecordStore.meaning c.args.self.now.inner in
-    let some : 0 < m.left = omega (arith, c.growths-left.ensures) in
+    let some : 0 < m.left = omega (arith, c.growths_left.ensures) in
     let e = c.tripped.ensures in
     record {
       beside = refl;
