@@ -10,6 +10,6 @@ loop-i-preserved c =
     let i = c.loop-i.i in
     let e = c.loop-i.invariant in
     let l : length c.loop-i.bytes ≡ length bs = ap length e ∙ length-filled bs c.args.at i (omega arith) in
-    let f : length c.freed-record-freed.result ≡ 128 = ap length c.freed-record-freed.ensures ∙ length-freed in
-    filled_more bs c.loop-i.bytes c.copy-in.new.bytes c.freed-record-freed.result c.args.at i e c.freed-record-freed.ensures
-    (c.copy-in.ensures.copied (omega arith))
+    let f : length c.freed_record-freed.result ≡ 128 = ap length c.freed_record-freed.ensures ∙ length-freed in
+    filled_more bs c.loop-i.bytes c.copy_in.new.bytes c.freed_record-freed.result c.args.at i e c.freed_record-freed.ensures
+    (c.copy_in.ensures.copied (omega arith))

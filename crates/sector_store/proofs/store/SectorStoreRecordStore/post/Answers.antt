@@ -9,20 +9,20 @@ use Rattle.sector_store.proofs.store.SectorStoreRecordStore.post.Goals as goal
 pub invariant-of-self : goal.invariant-of-self
 invariant-of-self c =
     let s = c.args.self.now in
-    let hc : has_count s.version (length s.file.bytes.now) ≡ true = sym c.keeps-count.ensures ∙ c.if-keeps-count.true in
-    let lc : length c.to-le-bytes.result ≡ 4 = ap length c.to-le-bytes.ensures in (
+    let hc : has_count s.version (length s.file.bytes.now) ≡ true = sym c.keeps_count.ensures ∙ c.if-keeps_count.true in
+    let lc : length c.to_le_bytes.result ≡ 4 = ap length c.to_le_bytes.ensures in (
       ∣ wrote_laid s.version s.file.bytes.now c.put.new.self.bytes.now s.file.sectors.now c.put.new.self.sectors.now s.used s.room
           s.file.bytes.name c.put.new.self.bytes.name (laid_out s) c.put.ensures.lender c.put.ensures.list
-          c.to-le-bytes.result 40 (omega (arith, lc, count_within s.version (length s.file.bytes.now) hc)) c.put.ensures.bytes ∣₁,
+          c.to_le_bytes.result 40 (omega (arith, lc, count_within s.version (length s.file.bytes.now) hc)) c.put.ensures.bytes ∣₁,
       tt,
     )
 
-pub returns-then-keeps-count : goal.returns-then-keeps-count
-returns-then-keeps-count c =
+pub returns-then-keeps_count : goal.returns-then-keeps_count
+returns-then-keeps_count c =
     let s = c.args.self.now in
-    let hc : has_count s.version (length s.file.bytes.now) ≡ true = sym c.keeps-count.ensures ∙ c.if-keeps-count.true in
-    let b : c.to-le-bytes.result ≡ bytes_of 4 s.used = search rules in
+    let hc : has_count s.version (length s.file.bytes.now) ≡ true = sym c.keeps_count.ensures ∙ c.if-keeps_count.true in
+    let b : c.to_le_bytes.result ≡ bytes_of 4 s.used = search rules in
     let p = posted s.version s.file.bytes.now c.put.new.self.bytes.now s.file.sectors.now c.put.new.self.sectors.now s.used s.room
     s.file.bytes.name c.put.new.self.bytes.name (laid_out s) c.put.ensures.lender c.put.ensures.list
-    c.to-le-bytes.result hc (count_within s.version (length s.file.bytes.now) hc) (omega (arith, room_numbered s.version _ _ _ _ (laid_out s), (laid_out s).few)) b c.put.ensures.bytes in
+    c.to_le_bytes.result hc (count_within s.version (length s.file.bytes.now) hc) (omega (arith, room_numbered s.version _ _ _ _ (laid_out s), (laid_out s).few)) b c.put.ensures.bytes in
     record { beside = p.0; answer = p.1 }

@@ -10,14 +10,14 @@ pub place-at-requires : goal.place-at-requires
 place-at-requires c =
     let s = c.args.self.now in
     let lt : c.args.number < s.used * records_per_sector s.version
-    = omega (arith, c.in_ok-unless-there.ensures.0, c.record-count-count.ensures, length-sectored s.version s.file.bytes.now s.file.sectors.now s.used s.room) in
+    = omega (arith, c.in_ok-unless_there.ensures.0, c.record_count-count.ensures, length-sectored s.version s.file.bytes.now s.file.sectors.now s.used s.room) in
     index_listed s.version _ _ s.used s.room c.args.number (laid_out s) lt
 
-pub copy-record-requires : goal.copy-record-requires
-copy-record-requires c =
+pub copy_record-requires : goal.copy_record-requires
+copy_record-requires c =
     let s = c.args.self.now in
     let lt : c.args.number < s.used * records_per_sector s.version
-    = omega (arith, c.in_ok-unless-there.ensures.0, c.record-count-count.ensures, length-sectored s.version s.file.bytes.now s.file.sectors.now s.used s.room) in
+    = omega (arith, c.in_ok-unless_there.ensures.0, c.record_count-count.ensures, length-sectored s.version s.file.bytes.now s.file.sectors.now s.used s.room) in
     omega (arith, c.place-at.ensures, place_fits s.version _ _ s.used s.room c.args.number (laid_out s) lt)
 
 pub returns : goal.returns
@@ -25,13 +25,13 @@ returns c =
     let s = c.args.self.now in
     let l = length-sectored s.version s.file.bytes.now s.file.sectors.now s.used s.room in
     let lt : c.args.number < s.used * records_per_sector s.version
-    = omega (arith, c.in_ok-unless-there.ensures.0, c.record-count-count.ensures, l) in
+    = omega (arith, c.in_ok-unless_there.ensures.0, c.record_count-count.ensures, l) in
     record {
       beside = refl;
       kept = refl;
       answer = record {
         there = omega (arith, lt, l);
-        is = c.copy-record.ensures ∙ ap (record_at s.file.bytes.now) c.place-at.ensures
+        is = c.copy_record.ensures ∙ ap (record_at s.file.bytes.now) c.place-at.ensures
             ∙ sym (get_or-sectored s.version s.file.bytes.now s.file.sectors.now s.used s.room c.args.number lt);
       };
     }

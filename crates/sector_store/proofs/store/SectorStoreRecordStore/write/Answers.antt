@@ -11,23 +11,23 @@ pub place-at-requires : goal.place-at-requires
 place-at-requires c =
     let s = c.args.self.now in
     let lt : c.args.number < s.used * records_per_sector s.version
-    = omega (arith, c.in_ok-unless-there.ensures.0, c.record-count-count.ensures, length-sectored s.version s.file.bytes.now s.file.sectors.now s.used s.room) in
+    = omega (arith, c.in_ok-unless_there.ensures.0, c.record_count-count.ensures, length-sectored s.version s.file.bytes.now s.file.sectors.now s.used s.room) in
     index_listed s.version _ _ s.used s.room c.args.number (laid_out s) lt
 
 pub put-requires : goal.put-requires
 put-requires c =
     let s = c.args.self.now in
-    let there = c.in_ok-unless-there.ensures in
+    let there = c.in_ok-unless_there.ensures in
     let lt : c.args.number < s.used * records_per_sector s.version
-    = omega (arith, there.0, c.record-count-count.ensures, length-sectored s.version s.file.bytes.now s.file.sectors.now s.used s.room) in
+    = omega (arith, there.0, c.record_count-count.ensures, length-sectored s.version s.file.bytes.now s.file.sectors.now s.used s.room) in
     omega (arith, there.1, c.place-at.ensures, place_fits s.version _ _ s.used s.room c.args.number (laid_out s) lt)
 
 pub invariant-of-self : goal.invariant-of-self
 invariant-of-self c =
     let s = c.args.self.now in
-    let there = c.in_ok-unless-there.ensures in
+    let there = c.in_ok-unless_there.ensures in
     let lt : c.args.number < s.used * records_per_sector s.version
-    = omega (arith, there.0, c.record-count-count.ensures, length-sectored s.version s.file.bytes.now s.file.sectors.now s.used s.room) in
+    = omega (arith, there.0, c.record_count-count.ensures, length-sectored s.version s.file.bytes.now s.file.sectors.now s.used s.room) in
     let f = place_fits s.version _ _ s.used s.room c.args.number (laid_out s) lt in (
       ∣ wrote_laid s.version s.file.bytes.now c.put.new.self.bytes.now s.file.sectors.now c.put.new.self.sectors.now s.used s.room
           s.file.bytes.name c.put.new.self.bytes.name (laid_out s) c.put.ensures.lender c.put.ensures.list
@@ -38,9 +38,9 @@ invariant-of-self c =
 pub returns : goal.returns
 returns c =
     let s = c.args.self.now in
-    let there = c.in_ok-unless-there.ensures in
+    let there = c.in_ok-unless_there.ensures in
     let l = length-sectored s.version s.file.bytes.now s.file.sectors.now s.used s.room in
-    let lt : c.args.number < s.used * records_per_sector s.version = omega (arith, there.0, c.record-count-count.ensures, l) in
+    let lt : c.args.number < s.used * records_per_sector s.version = omega (arith, there.0, c.record_count-count.ensures, l) in
     let w = wrote s.version s.file.bytes.now c.put.new.self.bytes.now s.file.sectors.now c.put.new.self.sectors.now s.used s.room
     s.file.bytes.name c.put.new.self.bytes.name (laid_out s) c.put.ensures.lender c.put.ensures.list
     c.args.bytes.now c.args.number c.args.offset lt there.1
