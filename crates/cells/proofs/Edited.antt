@@ -1,11 +1,11 @@
 -- The entries of a table as a whole, after a key is put, gets another value, or is taken out.
-use Rattle.std.proofs.Common.{◌≡◌, ℕ, ◌+◌, ◌-◌, ◌<◌, ◌≤◌, Bool, true, false, cond, ◌⊎◌, List, length, get_or, set, Some, None, Option, sym, refl, ap, ◌∙◌, subst, inl, inr, ⊎_elim, arith}
+use Rattle.std.proofs.Common.{◌≡◌, ℕ, ◌+◌, ◌-◌, ◌<◌, Bool, true, false, cond, List, length, get_or, set, Some, None, Option, sym, refl, ap, ◌∙◌, subst, ⊎_elim, arith}
 use Rattle.std.proofs.lemmas.List.{length-set, get_or-set_other, set-set}
 use Rattle.std.proofs.lemmas.Bool.{cases_Bool}
 use Rattle.cells.specs.declared.cell.Entry.{Entry}
 use Rattle.cells.specs.Chains.{revalued}
 use Rattle.cells.specs.Maps.{value_in, Once, Dense}
-use Rattle.cells.proofs.Entries.{some_none, some_of, none_of, At, set_here}
+use Rattle.cells.proofs.Entries.{some_of, none_of, At, set_here}
 use Rattle.cells.proofs.Lookups.{Laws, find_none, find_some, once-put, look-put, once-gone, look-gone, gone_none}
 use Rattle.cells.proofs.Firsts.{taken_below, dense_put, dense_replace, dense_last, dense_moved}
 

@@ -1,9 +1,9 @@
 -- A link of a bucket's chain, written at a place of it.
-use Rattle.std.proofs.Common.{◌≡◌, ℕ, ◌<◌, ◌⊎◌, List, length, get_or, set, refl, ap, ⊎_elim}
+use Rattle.std.proofs.Common.{◌≡◌, ℕ, ◌<◌, List, length, get_or, set, refl, ap, ⊎_elim}
 use lib.Seq.{map-set_same}
 use Rattle.std.proofs.lemmas.List.{length-set}
 use Rattle.cells.specs.declared.cell.Cell.{Cell}
-use Rattle.cells.specs.Chains.{no_cell, held, head_at, next_at, Hooked}
+use Rattle.cells.specs.Chains.{no_cell, Hooked}
 use Rattle.cells.proofs.Fields.{heads_set, head_set, nexts_set, next-set}
 
 module _ {K : Type 0} where

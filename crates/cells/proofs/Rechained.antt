@@ -1,8 +1,8 @@
 -- The chains stand after a cell is taken, given up, or gets another value.
-use Rattle.std.proofs.Common.{◌≡◌, ℕ, ◌+◌, ◌-◌, ◌%◌, ◌<◌, ◌≤◌, ◌⊎◌, Some, None, Option, sym, refl, ap, ◌∙◌, subst, inl, inr, ⊎_elim, arith}
+use Rattle.std.proofs.Common.{◌≡◌, ℕ, ◌+◌, ◌%◌, ◌<◌, ◌≤◌, ◌⊎◌, Some, None, Option, sym, ap, ◌∙◌, subst, inl, inr, ⊎_elim, arith}
 use Rattle.std.proofs.lemmas.Bool.{cases_lt, cases_eq}
 use Rattle.cells.specs.declared.cell.Entry.{Entry}
-use Rattle.cells.specs.Chains.{no_cell, revalued, Sits, Link, Chained, Step}
+use Rattle.cells.specs.Chains.{no_cell, Sits, Link, Chained, Step}
 use Rattle.cells.proofs.Links.{ends, kept_link, to_new, from_new, over, beside, below}
 
 sits_none : {K : Type 0} (hash : K → ℕ) (n b : ℕ) (o : Option (Entry K)) → Sits hash n b o → o ≡ None → ⊥

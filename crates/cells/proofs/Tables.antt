@@ -1,11 +1,11 @@
 -- A table's rules and its map after one of its calls.
-use Rattle.std.proofs.Common.{◌≡◌, ℕ, ◌+◌, ◌-◌, ◌<◌, ◌≤◌, Bool, true, ◌⊎◌, List, length, get_or, set, is_some, Some, None, Option, sym, refl, ap, ◌∙◌, subst, inl, inr, ⊎_elim, arith}
+use Rattle.std.proofs.Common.{◌≡◌, ℕ, ◌+◌, ◌-◌, ◌<◌, ◌≤◌, Bool, List, length, get_or, set, is_some, Some, None, Option, sym, ap, ◌∙◌, subst, inl, ⊎_elim, arith}
 use Rattle.std.proofs.lemmas.List.{get_or-map, get_or_past, set-get_or, set-set, get_or-set_other}
 use Rattle.std.proofs.lemmas.Bool.{cases_lt, cases_eq}
 use Rattle.cells.specs.declared.cell.Entry.{Entry}
 use Rattle.cells.specs.declared.cell.Cell.{Cell}
-use Rattle.cells.specs.Chains.{no_cell, emptied, held, head_at, valued, revalued, Sits, Kept, Holds, Lacks}
-use Rattle.cells.specs.Maps.{value_in, Puts, Drops, Blank, with_key, without_key, Empty, Once, Dense, Rules}
+use Rattle.cells.specs.Chains.{emptied, held, valued, revalued, Sits, Kept, Holds, Lacks}
+use Rattle.cells.specs.Maps.{value_in, Puts, Drops, Blank, with_key, without_key, Empty, Rules}
 use Rattle.cells.proofs.Links.{link}
 use Rattle.cells.proofs.Fields.{length-held}
 use Rattle.cells.proofs.Entries.{some_none, At, set_here}

@@ -1,13 +1,13 @@
 -- The rules of a table are one fact: two proofs of them are equal, so what a ghost field says can be used.
-use Rattle.std.proofs.Common.{◌≡◌, ℕ, ◌%◌, Bool, List, length, is_some, Some, None, Option}
+use Rattle.std.proofs.Common.{◌≡◌, ℕ, ◌%◌, Bool, List, length, Some, None, Option}
 use mathlib.Core.Bool.{Bool-set}
 use mathlib.Core.Logic.{∥∥₁_elim}
 use native.Mathlib.Nat.{ℕ_set}
 use native.Mathlib.Bridge.{le_prop}
 use Rattle.cells.specs.declared.cell.Entry.{Entry}
 use Rattle.cells.specs.declared.cell.Cell.{Cell}
-use Rattle.cells.specs.Chains.{Sits, Link, Chained, Kept}
-use Rattle.cells.specs.Maps.{Once, Dense, Rules}
+use Rattle.cells.specs.Chains.{Sits, Link, Chained}
+use Rattle.cells.specs.Maps.{Dense, Rules}
 
 absurd_prop : (p q : ⊥) → p ≡ q
 absurd_prop p q = absurd p

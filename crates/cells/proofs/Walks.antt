@@ -1,10 +1,10 @@
 -- A walk along the chain of a key meets every cell that could hold the key.
-use Rattle.std.proofs.Common.{◌≡◌, ℕ, ◌+◌, ◌-◌, ◌%◌, ◌<◌, ◌≤◌, Bool, true, false, ◌⊎◌, List, length, get_or, Some, None, Option, sym, refl, ap, ◌∙◌, subst, inl, inr, ⊎_elim, arith}
+use Rattle.std.proofs.Common.{◌≡◌, ℕ, ◌+◌, ◌-◌, ◌%◌, ◌<◌, ◌≤◌, Bool, true, false, List, length, get_or, Some, None, Option, sym, ap, ◌∙◌, subst, inl, inr, ⊎_elim, arith}
 use Rattle.std.proofs.lemmas.List.{get_or_past}
 use Rattle.std.proofs.lemmas.Bool.{cases_lt, cases_eq}
 use Rattle.cells.specs.declared.cell.Entry.{Entry}
 use Rattle.cells.specs.declared.cell.Cell.{Cell}
-use Rattle.cells.specs.Chains.{no_cell, held, head_at, next_at, Sits, In, Link, Kept, Holds, Lacks, Passed}
+use Rattle.cells.specs.Chains.{no_cell, held, Sits, In, Link, Kept, Holds, Lacks, Passed}
 use Rattle.cells.proofs.Links.{ends}
 use Rattle.cells.proofs.Fields.{held_read, head_read, next_read, length-held}
 

@@ -19,7 +19,7 @@
 -- Between    the link that goes past a given cell, or to it
 -- Hooked     one link was changed, and nothing else
 
-use Rattle.std.specs.Prelude.{◌≡◌, ℕ, ◌+◌, ◌%◌, ◌<◌, ◌≤◌, Bool, true, ◌⊎◌, List, [], ◌∷◌, map, length, get_or, Some, None, Option, ◌≢◌, slice_index, slice_index_or}
+use Rattle.std.specs.Prelude.{◌≡◌, ℕ, ◌+◌, ◌%◌, ◌<◌, ◌≤◌, Bool, true, ◌⊎◌, List, map, length, get_or, Some, None, Option, ◌≢◌, slice_index, slice_index_or}
 use Rattle.cells.specs.declared.cell.Entry.{Entry}
 use Rattle.cells.specs.declared.cell.Cell.{Cell}
 

@@ -10,10 +10,10 @@ use keys::key::Key;
 
 /// The cell that holds a key the same as this one.
 pub(crate) fn seek<K: Key + Copy>(cells: &[Cell<K>], key: &K) -> Option<usize>
-    requires { Kept hashed cells.now }
+    requires { Kept K.hashed cells.now }
     ensures { MatchOption result
-        (Lacks same cells.now key.now)
-        (λ i. Holds same cells.now key.now i) }
+        (Lacks K.same cells.now key.now)
+        (λ i. Holds K.same cells.now key.now i) }
 {
     if cells.is_empty() {
         return None;
@@ -58,10 +58,10 @@ struct Gap {
 
 /// Where the cell `f` has, or would have, its place in the chain of a bucket.
 fn find_gap<K: Key + Copy>(cells: &[Cell<K>], bucket: usize, f: usize) -> Gap
-    requires kept { Kept hashed cells.now }
+    requires kept { Kept K.hashed cells.now }
     requires inside { f < length cells.now }
     requires bucket { bucket < length cells.now }
-    ensures { Between hashed cells.now bucket f result.before result.after }
+    ensures { Between K.hashed cells.now bucket f result.before result.after }
 {
     let mut before = NO_CELL;
     let mut after = cells[bucket].head;
@@ -87,10 +87,10 @@ fn hook<K: Copy>(cells: &mut [Cell<K>], bucket: usize, before: usize, x: usize)
 
 /// Puts an entry into the free cell `f`, and the cell into its chain.
 pub(crate) fn put<K: Key + Copy>(cells: &mut [Cell<K>], f: usize, entry: Entry<K>)
-    requires kept { Kept hashed cells.old }
+    requires kept { Kept K.hashed cells.old }
     requires inside { f < length cells.old }
     requires free { slice_index_or (held cells.old) f None ≡ None }
-    ensures kept { Kept hashed cells.new }
+    ensures kept { Kept K.hashed cells.new }
     ensures held { held cells.new ≡ slice_set (held cells.old) f (Some entry) }
 {
     let bucket = entry.key.hash() as usize % cells.len();
@@ -106,9 +106,9 @@ pub(crate) fn put<K: Key + Copy>(cells: &mut [Cell<K>], f: usize, entry: Entry<K
 
 /// Takes the cell `f` out of its chain, and the entry out of the cell.
 pub(crate) fn give_up<K: Key + Copy>(cells: &mut [Cell<K>], f: usize) -> Option<Entry<K>>
-    requires kept { Kept hashed cells.old }
+    requires kept { Kept K.hashed cells.old }
     requires inside { f < length cells.old }
-    ensures kept { Kept hashed cells.new }
+    ensures kept { Kept K.hashed cells.new }
     ensures held { held cells.new ≡ slice_set (held cells.old) f None }
     ensures given { result ≡ slice_index_or (held cells.old) f None }
 {
@@ -132,9 +132,9 @@ pub(crate) fn give_up<K: Key + Copy>(cells: &mut [Cell<K>], f: usize) -> Option<
 
 /// Puts another value under the key of the cell `at`.
 pub(crate) fn replace<K: Key + Copy>(cells: &mut [Cell<K>], at: usize, value: u32)
-    requires kept { Kept hashed cells.old }
+    requires kept { Kept K.hashed cells.old }
     requires inside { at < length cells.old }
-    ensures kept { Kept hashed cells.new }
+    ensures kept { Kept K.hashed cells.new }
     ensures held { held cells.new ≡ slice_set (held cells.old) at (revalued (slice_index_or (held cells.old) at None) value) }
 {
     let cell = cells[at];

@@ -2,6 +2,7 @@
 //!
 //! `key` has what a kind of key gives, `child` and `sector` the two kinds, `table` the calls, `repeat` the
 //! question that is asked with a table of sector numbers. `chain` is the layout, which no caller sees.
+#![tactic(auto)]
 
 pub mod cell;
 mod chain;

@@ -22,10 +22,10 @@ pub struct Table<'a, K> {
 impl<'a, K: Key + Copy> Table<'a, K> {
     /// A table without keys; the cells are emptied.
     pub fn new(cells: &'a mut [Cell<K>]) -> Table<'a, K>
-        ensures sound { Sound hashed same result }
+        ensures sound { Sound K.hashed K.same result }
         ensures lender { result.cells.ghost_name ≡ cells.entry.ghost_name }
         ensures size { size_of result ≡ length cells.old }
-        ensures blank { Blank (lookup same result) }
+        ensures blank { Blank (lookup K.same result) }
         ensures count { result.count ≡ 0 }
         ensures empty { Empty (cells_of result) }
     {
@@ -38,7 +38,7 @@ impl<K: Key + Copy> Table<'_, K> {
     /// How many keys there are.
     pub fn len(&self) -> usize
         ensures count { result ≡ self.now.count }
-        ensures within { Sound hashed same self.now → result ≤ size_of self.now }
+        ensures within { Sound K.hashed K.same self.now → result ≤ size_of self.now }
     {
         self.count
     }
@@ -52,18 +52,18 @@ impl<K: Key + Copy> Table<'_, K> {
 
     /// The value under a key.
     pub fn find(&self, key: &K) -> Option<u32>
-        requires { Sound hashed same self.now }
-        ensures { result ≡ lookup same self.now key.now }
+        requires { Sound K.hashed K.same self.now }
+        ensures { result ≡ lookup K.same self.now key.now }
     {
         let at = self.seek(key)?;
         chain::value_at(self.cells, at)
     }
 
     fn seek(&self, key: &K) -> Option<usize>
-        requires { Kept hashed (cells_of self.now) }
+        requires { Kept K.hashed (cells_of self.now) }
         ensures { MatchOption result
-            (Lacks same (cells_of self.now) key.now)
-            (λ i. Holds same (cells_of self.now) key.now i) }
+            (Lacks K.same (cells_of self.now) key.now)
+            (λ i. Holds K.same (cells_of self.now) key.now i) }
     {
         chain::seek(self.cells, key)
     }

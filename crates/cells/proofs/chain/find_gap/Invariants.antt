@@ -1,5 +1,5 @@
-use Rattle.std.proofs.Common.{ℕ, ◌-◌, ◌%◌, ◌<◌, length, get_or}
-use Rattle.cells.specs.Chains.{held, head_at, next_at, In, Step}
+use Rattle.std.proofs.Common.{◌-◌, length}
+use Rattle.cells.specs.Chains.{head_at, next_at, In, Step}
 use Rattle.cells.proofs.chain.find_gap.Given as goal
 
 abbrev pub invariant-loop-after : goal.invariant-loop-after

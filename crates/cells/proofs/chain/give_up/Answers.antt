@@ -8,12 +8,12 @@ use Rattle.cells.proofs.chain.give_up.Goals as goal
 pub hook-requires : goal.hook-requires
 hook-requires g c = record {
   bucket = search rules;
-  inside = λ ne. let h = before_inside g.K.Key.hashed _ _ _ _ _ c.find-gap-before.ensures c.requires.inside ne in simp length-set h;
+  inside = λ ne. let h = before_inside g.K.Key.hashed _ _ _ _ _ c.find_gap-before.ensures c.requires.inside ne in simp length-set h;
 }
 
 pub returns-in-Some : goal.returns-in-Some
 returns-in-Some g c =
-    let d = gone_all g.K.Key.hashed _ _ _ _ _ _ _ _ c.requires.kept (omega arith) c.requires.inside c.index-cells-f.is c.in-Some.is c.hash.ensures.tells c.find-gap-before.ensures c.hook.ensures in
+    let d = gone_all g.K.Key.hashed _ _ _ _ _ _ _ _ c.requires.kept (omega arith) c.requires.inside c.index-cells-f.is c.in-Some.is c.hash.ensures.tells c.find_gap-before.ensures c.hook.ensures in
     record { kept = d.0; held = d.1; given = sym (held_read _ _ _ c.requires.inside c.index-cells-f.is ∙ c.in-Some.is) }
 
 pub returns-in-None : goal.returns-in-None

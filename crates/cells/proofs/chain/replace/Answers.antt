@@ -1,4 +1,3 @@
-use Rattle.std.proofs.Common.{◌≡◌, length, get_or, set, sym, ap, ◌∙◌}
 use Rattle.cells.proofs.Moves.{revalued_all, revalued_none}
 use Rattle.cells.proofs.chain.replace.Goals as goal
 

@@ -1,9 +1,9 @@
-use Rattle.std.proofs.Common.{◌<◌, length, sym, ◌∙◌, mod-lt, arith, rules, eqb-true}
+use Rattle.std.proofs.Common.{sym, ◌∙◌, arith, rules}
 use Rattle.cells.proofs.Walks.{passed_start, passed_inside, passed_some, passed_next, passed_all, none_all, found}
 use Rattle.cells.proofs.chain.seek.Goals as goal
 
-pub returns-then-is-empty : goal.returns-then-is-empty
-returns-then-is-empty g c = none_all g.K.Key.same g.K.Key.hashed g.met.K.Key.agrees _ _ (search rules)
+pub returns-then-is_empty : goal.returns-then-is_empty
+returns-then-is_empty g c = none_all g.K.Key.same g.K.Key.hashed g.met.K.Key.agrees _ _ (search rules)
 
 pub loop-at-init : goal.loop-at-init
 loop-at-init g c = passed_start g.K.Key.same g.K.Key.hashed g.met.K.Key.agrees _ _ _ _ c.requires c.hash.ensures.tells (search rules) c.index-cells-bucket.is
@@ -17,14 +17,14 @@ bounds-cells-at g c = passed_inside g.K.Key.same g.K.Key.hashed g.met.K.Key.agre
 pub returns-in-None : goal.returns-in-None
 returns-in-None g c = absurd (passed_some g.K.Key.same g.K.Key.hashed g.met.K.Key.agrees _ _ _ _ c.loop-at.invariant c.loop-at-test.true c.index-cells-at.is c.in-None.is)
 
-pub returns-then-is-same : goal.returns-then-is-same
-returns-then-is-same g c = found g.K.Key.same g.K.Key.hashed g.met.K.Key.agrees _ _ _ _ _ c.loop-at.invariant c.loop-at-test.true c.index-cells-at.is c.in-Some.is (sym c.is-same.ensures.tells ∙ c.if-is-same.true)
+pub returns-then-is_same : goal.returns-then-is_same
+returns-then-is_same g c = found g.K.Key.same g.K.Key.hashed g.met.K.Key.agrees _ _ _ _ _ c.loop-at.invariant c.loop-at-test.true c.index-cells-at.is c.in-Some.is (sym c.is_same.ensures.tells ∙ c.if-is_same.true)
 
 pub loop-at-smaller : goal.loop-at-smaller
-loop-at-smaller g c = (passed_next g.K.Key.same g.K.Key.hashed g.met.K.Key.agrees _ _ _ _ _ c.requires c.loop-at.invariant c.loop-at-test.true c.index-cells-at.is c.in-Some.is (sym c.is-same.ensures.tells ∙ c.if-is-same.false)).1 (omega arith)
+loop-at-smaller g c = (passed_next g.K.Key.same g.K.Key.hashed g.met.K.Key.agrees _ _ _ _ _ c.requires c.loop-at.invariant c.loop-at-test.true c.index-cells-at.is c.in-Some.is (sym c.is_same.ensures.tells ∙ c.if-is_same.false)).1 (omega arith)
 
 pub loop-at-preserved : goal.loop-at-preserved
-loop-at-preserved g c = (passed_next g.K.Key.same g.K.Key.hashed g.met.K.Key.agrees _ _ _ _ _ c.requires c.loop-at.invariant c.loop-at-test.true c.index-cells-at.is c.in-Some.is (sym c.is-same.ensures.tells ∙ c.if-is-same.false)).0
+loop-at-preserved g c = (passed_next g.K.Key.same g.K.Key.hashed g.met.K.Key.agrees _ _ _ _ _ c.requires c.loop-at.invariant c.loop-at-test.true c.index-cells-at.is c.in-Some.is (sym c.is_same.ensures.tells ∙ c.if-is_same.false)).0
 
 pub returns : goal.returns
 returns g c = passed_all g.K.Key.same g.K.Key.hashed g.met.K.Key.agrees _ _ _ c.loop-at.invariant (omega arith)

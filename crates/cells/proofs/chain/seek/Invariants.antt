@@ -1,5 +1,5 @@
-use Rattle.std.proofs.Common.{◌≡◌, ℕ, ◌-◌, ◌%◌, ◌<◌, true, ◌⊎◌, length, get_or}
-use Rattle.cells.specs.Chains.{held, In, Passed}
+use Rattle.std.proofs.Common.{◌-◌, length}
+use Rattle.cells.specs.Chains.{Passed}
 use Rattle.cells.proofs.chain.seek.Given as goal
 
 abbrev pub invariant-loop-at : goal.invariant-loop-at

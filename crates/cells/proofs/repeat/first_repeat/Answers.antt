@@ -11,12 +11,12 @@ find-requires c = c.loop-place.invariant.sound
 pub insert-requires : goal.insert-requires
 insert-requires c = c.loop-place.invariant.sound
 
-pub returns-then-is-some : goal.returns-then-is-some
-returns-then-is-some c = record { lender = c.loop-place.invariant.lender; size = c.loop-place.invariant.size; place = marking-found _ _ _ _ c.loop-place.invariant _ c.loop-place-test.true refl (c.if-is-some.ensures ∙ ap is_some c.find.ensures) }
+pub returns-then-is_some : goal.returns-then-is_some
+returns-then-is_some c = record { lender = c.loop-place.invariant.lender; size = c.loop-place.invariant.size; place = marking-found _ _ _ _ c.loop-place.invariant _ c.loop-place-test.true refl (c.if-is_some.ensures ∙ ap is_some c.find.ensures) }
 
 pub loop-place-preserved : goal.loop-place-preserved
 loop-place-preserved c =
-    marking-more _ _ _ _ c.loop-place.invariant _ c.loop-place-test.true refl _ _ c.requires.room (c.if-is-some.ensures ∙ ap is_some c.find.ensures)
+    marking-more _ _ _ _ c.loop-place.invariant _ c.loop-place-test.true refl _ _ c.requires.room (c.if-is_some.ensures ∙ ap is_some c.find.ensures)
     c.insert.ensures.answer c.insert.ensures.sound c.insert.ensures.lender c.insert.ensures.size
 
 pub returns : goal.returns

@@ -9,10 +9,10 @@ unfolding lookup
 returns g c =
     let laws = lawful {same = g.K.Key.same} g.met.K.Key.reflects g.met.K.Key.turns g.met.K.Key.joins in
     record {
-      sound = empty_rules g.K.Key.hashed g.K.Key.same laws _ c.empty-all.ensures;
+      sound = empty_rules g.K.Key.hashed g.K.Key.same laws _ c.empty_all.ensures;
       lender = refl;
-      size = c.empty-all.auto.cells;
-      blank = empty_blank g.K.Key.hashed g.K.Key.same laws _ c.empty-all.ensures;
+      size = c.empty_all.auto.cells;
+      blank = empty_blank g.K.Key.hashed g.K.Key.same laws _ c.empty_all.ensures;
       count = refl;
-      empty = c.empty-all.ensures;
+      empty = c.empty_all.ensures;
     }

@@ -9,25 +9,25 @@ unfolding lookup
 returns-in_err-at g c =
     let laws = lawful {same = g.K.Key.same} g.met.K.Key.reflects g.met.K.Key.turns g.met.K.Key.joins in
     let d = remove-none g.K.Key.hashed g.K.Key.same laws _ _ c.requires _ c.in_err-at.ensures in
-    record { sound = c.requires; lender = refl; size = refl; answer = c.from-residual.ensures ∙ no_value g.K.Key.hashed g.K.Key.same laws _ _ c.requires _ c.in_err-at.ensures; drops = d.0; counts = d.1 }
+    record { sound = c.requires; lender = refl; size = refl; answer = c.from_residual.ensures ∙ no_value g.K.Key.hashed g.K.Key.same laws _ _ c.requires _ c.in_err-at.ensures; drops = d.0; counts = d.1 }
 
 pub fill-requires : goal.fill-requires
 fill-requires g c =
     let laws = lawful {same = g.K.Key.same} g.met.K.Key.reflects g.met.K.Key.turns g.met.K.Key.joins in
     let h = below-count g.K.Key.hashed g.K.Key.same laws _ _ c.requires _ _ c.in_ok-at.ensures in
-    let s = size_held g.K.Key.hashed g.K.Key.same laws _ _ c.requires in let n = c.give-up-gone.auto.cells in
-    record { kept = c.give-up-gone.ensures.kept; hole = omega arith; last = omega arith; free = hole-there g.K.Key.hashed g.K.Key.same laws _ _ c.requires _ _ c.in_ok-at.ensures _ c.give-up-gone.ensures.held }
+    let s = size_held g.K.Key.hashed g.K.Key.same laws _ _ c.requires in let n = c.give_up-gone.auto.cells in
+    record { kept = c.give_up-gone.ensures.kept; hole = omega arith; last = omega arith; free = hole-there g.K.Key.hashed g.K.Key.same laws _ _ c.requires _ _ c.in_ok-at.ensures _ c.give_up-gone.ensures.held }
 
 pub returns-in-Some : goal.returns-in-Some
 unfolding lookup
 returns-in-Some g c =
     let laws = lawful {same = g.K.Key.same} g.met.K.Key.reflects g.met.K.Key.turns g.met.K.Key.joins in
-    let d = remove-there g.K.Key.hashed g.K.Key.same laws _ _ c.requires _ _ c.in_ok-at.ensures _ _ c.give-up-gone.ensures.held c.fill.ensures.kept c.fill.ensures.held in
+    let d = remove-there g.K.Key.hashed g.K.Key.same laws _ _ c.requires _ _ c.in_ok-at.ensures _ _ c.give_up-gone.ensures.held c.fill.ensures.kept c.fill.ensures.held in
     record {
       sound = d.0;
       lender = refl;
-      size = c.fill.auto.cells ∙ c.give-up-gone.auto.cells;
-      answer = value_taken g.K.Key.hashed g.K.Key.same laws _ _ c.requires _ _ c.in_ok-at.ensures _ (sym c.in-Some.is ∙ c.give-up-gone.ensures.given);
+      size = c.fill.auto.cells ∙ c.give_up-gone.auto.cells;
+      answer = value_taken g.K.Key.hashed g.K.Key.same laws _ _ c.requires _ _ c.in_ok-at.ensures _ (sym c.in-Some.is ∙ c.give_up-gone.ensures.given);
       drops = d.1;
       counts = d.2;
     }
