@@ -20,11 +20,11 @@ use Rattle.records.specs.Steps.{and_then, spell_step, name_steps, head_steps, li
 -- two parts, one after the other
 pub then_judge : {A B : Type 0} (p q : List Rule) (a : A) (f : A → Result B Flaw) (b : B) → f a ≡ judge q b → and_then (judge p a) f ≡ judge (p ++ q) b
 then_judge [] q a f b e = e
-then_judge {A} {B} (r ∷ p) q a f b e = by-test r.broken (then_judge p q a f b e)
+then_judge {A} {B} (r ∷ p) q a f b e = by_test r.broken (then_judge p q a f b e)
   where
-    by-test : (t : Bool) → and_then (judge p a) f ≡ judge (p ++ q) b → and_then (cond t (Err r.flaw) (judge p a)) f ≡ cond t (Err r.flaw) (judge (p ++ q) b)
-    by-test true g = refl
-    by-test false g = g
+    by_test : (t : Bool) → and_then (judge p a) f ≡ judge (p ++ q) b → and_then (cond t (Err r.flaw) (judge p a)) f ≡ cond t (Err r.flaw) (judge (p ++ q) b)
+    by_test true g = refl
+    by_test false g = g
 
 -- a name spells its units
 pub spelled_name : (us : List ℕ) → spelled (name_of us) ≡ us

@@ -23,11 +23,11 @@ Kept (r ∷ rs) = (r.broken ≡ false) × Kept rs
 -- the first broken rule and the judgement say the same
 pub judged_ok : {A : Type 0} (rs : List Rule) (x y : A) → judge rs x ≡ Ok y → Kept rs × (x ≡ y)
 judged_ok [] x y e = (tt, cc)
-judged_ok {A} (r ∷ rs) x y e = by-test r.broken refl (judged_ok rs x y) e
+judged_ok {A} (r ∷ rs) x y e = by_test r.broken refl (judged_ok rs x y) e
   where
-    by-test : (t : Bool) → r.broken ≡ t → (judge rs x ≡ Ok y → Kept rs × (x ≡ y)) → cond t (Err r.flaw) (judge rs x) ≡ Ok y → ((r.broken ≡ false) × Kept rs) × (x ≡ y)
-    by-test true q g h = let z : ◌≡◌ {A = ℕ} 0 1 = cc in absurd (omega arith)
-    by-test false q g h = let k = g h in ((q, k.0), k.1)
+    by_test : (t : Bool) → r.broken ≡ t → (judge rs x ≡ Ok y → Kept rs × (x ≡ y)) → cond t (Err r.flaw) (judge rs x) ≡ Ok y → ((r.broken ≡ false) × Kept rs) × (x ≡ y)
+    by_test true q g h = let z : ◌≡◌ {A = ℕ} 0 1 = cc in absurd (omega arith)
+    by_test false q g h = let k = g h in ((q, k.0), k.1)
 
 pub kept_judged : {A : Type 0} (rs : List Rule) (x : A) → Kept rs → judge rs x ≡ Ok x
 kept_judged [] x k = refl
@@ -39,11 +39,11 @@ kept_none (r ∷ rs) k = rw k.0 (kept_none rs k.1)
 
 pub judged_err : {A : Type 0} (rs : List Rule) (x : A) (f : Flaw) → judge rs x ≡ Err f → first rs ≡ Some f
 judged_err [] x f e = let z : ◌≡◌ {A = ℕ} 0 1 = cc in absurd (omega arith)
-judged_err {A} (r ∷ rs) x f e = by-test r.broken (judged_err rs x f) e
+judged_err {A} (r ∷ rs) x f e = by_test r.broken (judged_err rs x f) e
   where
-    by-test : (t : Bool) → (judge rs x ≡ Err f → first rs ≡ Some f) → cond t (Err r.flaw) (judge rs x) ≡ Err f → ◌≡◌ {A = Option Flaw} (cond t (Some r.flaw) (first rs)) (Some f)
-    by-test true g h = let z : r.flaw ≡ f = cc in ap Some z
-    by-test false g h = g h
+    by_test : (t : Bool) → (judge rs x ≡ Err f → first rs ≡ Some f) → cond t (Err r.flaw) (judge rs x) ≡ Err f → ◌≡◌ {A = Option Flaw} (cond t (Some r.flaw) (first rs)) (Some f)
+    by_test true g h = let z : r.flaw ≡ f = cc in ap Some z
+    by_test false g h = g h
 
 -- each rule of a record, kept
 pub record Holds (bs : List ℕ) (v : Version) (m : Validation) : Type 0 where

@@ -77,32 +77,32 @@ module _ (bs : List ℕ) (v : Version) (m : Validation) (r : IsRecord bs) (k : H
 
   -- the name that is given
   pub title_spelled : spelled (titled (kind_in bs) (name_of (name_in bs))) ≡ title_in bs
-  title_spelled = by-root (is_root (kind_in bs))
+  title_spelled = by_root (is_root (kind_in bs))
     where
-      by-root : (b : Bool) → spelled (cond b (name_of root_units) (name_of (name_in bs))) ≡ cond b root_units (name_in bs)
-      by-root true = refl
-      by-root false = spelled_name (name_in bs)
+      by_root : (b : Bool) → spelled (cond b (name_of root_units) (name_of (name_in bs))) ≡ cond b root_units (name_in bs)
+      by_root true = refl
+      by_root false = spelled_name (name_in bs)
 
   title_named : titled (kind_in bs) (name_of (name_in bs)) ≡ name_of (title_in bs)
-  title_named = by-root (is_root (kind_in bs))
+  title_named = by_root (is_root (kind_in bs))
     where
-      by-root : (b : Bool) → cond b (name_of root_units) (name_of (name_in bs)) ≡ name_of (cond b root_units (name_in bs))
-      by-root true = refl
-      by-root false = refl
+      by_root : (b : Bool) → cond b (name_of root_units) (name_of (name_in bs)) ≡ name_of (cond b root_units (name_in bs))
+      by_root true = refl
+      by_root false = refl
 
   title_few : length (title_in bs) ≤ 31
-  title_few = by-root (is_root (kind_in bs))
+  title_few = by_root (is_root (kind_in bs))
     where
-      by-root : (b : Bool) → length (cond b root_units (name_in bs)) ≤ 31
-      by-root true = omega arith
-      by-root false = units_few
+      by_root : (b : Bool) → length (cond b root_units (name_in bs)) ≤ 31
+      by_root true = omega arith
+      by_root false = units_few
 
   title_small : (i : ℕ) → get_or (title_in bs) i 0 < 65536
-  title_small i = by-root (is_root (kind_in bs))
+  title_small i = by_root (is_root (kind_in bs))
     where
-      by-root : (b : Bool) → get_or (cond b root_units (name_in bs)) i 0 < 65536
-      by-root true = root_small i
-      by-root false = units_small i
+      by_root : (b : Bool) → get_or (cond b root_units (name_in bs)) i 0 < 65536
+      by_root true = root_small i
+      by_root false = units_small i
 
   pub read_sized : Sized (meaning bs v)
   read_sized = record {
@@ -112,8 +112,8 @@ module _ (bs : List ℕ) (v : Version) (m : Validation) (r : IsRecord bs) (k : H
     left = part_below bs 68 4 r (omega arith);
     right = part_below bs 72 4 r (omega arith);
     child = part_below bs 76 4 r (omega arith);
-    clsid = clsid-long (is_stream (kind_in bs));
-    octets = λ i. clsid-small i (is_stream (kind_in bs));
+    clsid = clsid_long (is_stream (kind_in bs));
+    octets = λ i. clsid_small i (is_stream (kind_in bs));
     state = part_below bs 96 4 r (omega arith);
     creation = zeroed (is_stream (kind_in bs)) (time_in bs Creation) 18446744073709551616 (part_below bs 100 8 r (omega arith)) (omega arith);
     modified = zeroed (is_stream (kind_in bs)) (time_in bs Modified) 18446744073709551616 (part_below bs 108 8 r (omega arith)) (omega arith);
@@ -121,17 +121,17 @@ module _ (bs : List ℕ) (v : Version) (m : Validation) (r : IsRecord bs) (k : H
     length = zeroed (is_storage (kind_in bs)) (length_in bs v) 18446744073709551616 (cut_below v (u64_at bs 120) (part_below bs 120 8 r (omega arith))) (omega arith);
   }
     where
-      clsid-long : (b : Bool) → length (cond b nil (clsid_in bs)) ≡ 16
-      clsid-long true = refl
-      clsid-long false = let l = r.0 in length_part bs 80 16 (omega arith)
+      clsid_long : (b : Bool) → length (cond b nil (clsid_in bs)) ≡ 16
+      clsid_long true = refl
+      clsid_long false = let l = r.0 in length_part bs 80 16 (omega arith)
 
-      clsid-small : (i : ℕ) (b : Bool) → get_or (cond b nil (clsid_in bs)) i 0 < 256
-      clsid-small i true = zeros_small 16 i
-      clsid-small i false = small_part bs 80 16 r.1 i
+      clsid_small : (i : ℕ) (b : Bool) → get_or (cond b nil (clsid_in bs)) i 0 < 256
+      clsid_small i true = zeros_small 16 i
+      clsid_small i false = small_part bs 80 16 r.1 i
 
   pub read_allowed : Allowed v (meaning bs v)
   read_allowed = record {
-    utf16 = rw title_spelled (by-root (is_root (kind_in bs)));
+    utf16 = rw title_spelled (by_root (is_root (kind_in bs)));
     root = λ h. title_spelled ∙ gone (is_root (kind_in bs)) (name_in bs) root_units h;
     other = λ h. rw title_spelled (rw h (loud true (allowed (name_in bs)) (rw h at k.other) refl));
     left = k.left;
@@ -146,9 +146,9 @@ module _ (bs : List ℕ) (v : Version) (m : Validation) (r : IsRecord bs) (k : H
     room = room_by (is_storage (kind_in bs));
   }
     where
-      by-root : (b : Bool) → well_formed (cond b root_units (name_in bs)) ≡ true
-      by-root true = refl
-      by-root false = not-false (well_formed (name_in bs)) k.utf16
+      by_root : (b : Bool) → well_formed (cond b root_units (name_in bs)) ≡ true
+      by_root true = refl
+      by_root false = not-false (well_formed (name_in bs)) k.utf16
 
       room_by : (b : Bool) → cut v (cond b 0 (length_in bs v)) ≡ cond b 0 (length_in bs v)
       room_by true = cut_zero v
