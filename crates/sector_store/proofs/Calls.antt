@@ -1,14 +1,14 @@
 -- The calls of a store of sectors, by what its bytes and its list are after them.
-use Rattle.std.proofs.Common.{◌≡◌, ℕ, ◌+◌, ◌-◌, ◌*◌, ◌^◌, ◌<◌, ◌≤◌, Bool, true, List, length, replicate, sym, refl, ap, ◌∙◌, subst, arith}
+use Rattle.std.proofs.Common.{◌≡◌, ℕ, ◌+◌, ◌-◌, ◌*◌, ◌^◌, ◌<◌, ◌≤◌, true, List, length, replicate, ap, ◌∙◌}
 use lib.Seq.{paste}
 use Rattle.fields.specs.declared.version.Version.{Version}
 use Rattle.fields.specs.Versions.{records_per_sector}
 use Rattle.records.specs.Bytes.{bytes_of}
-use Rattle.stores.specs.Meaning.{Meaning, with_bytes, with_growth, with_count, growths_held, freed}
+use Rattle.stores.specs.Meaning.{with_bytes, with_growth, with_count, growths_held, freed}
 use Rattle.stores.proofs.Pasted.{length_pasted}
 use Rattle.sector_store.specs.Sectors.{start, place, has_count, sectored, sector_beside, filled, Laid}
 use Rattle.sector_store.proofs.Filled.{length-filled}
-use Rattle.sector_store.proofs.Changed.{place_fits, next_fits, grown_laid, sector_written, beside_written, sector_grown, beside_grown, sector_posted, beside_posted}
+use Rattle.sector_store.proofs.Changed.{next_fits, grown_laid, sector_written, beside_written, sector_grown, beside_grown, sector_posted, beside_posted}
 
 moved : (v : Version) (n n' : ℕ) (ss ss' : List ℕ) (u r : ℕ) → n' ≡ n → ss' ≡ ss → Laid v n ss u r → Laid v n' ss' u r
 moved v n n' ss ss' u r en es l = rw (en, es) l

@@ -1,5 +1,5 @@
 -- What a store of sectors means after a write, a growth and a post, and what lies beside it.
-use Rattle.std.proofs.Common.{◌≡◌, ℕ, ◌+◌, ◌-◌, ◌*◌, ◌/◌, ◌%◌, ◌^◌, ◌<◌, ◌≤◌, Bool, true, false, cond, ltb, leb, ◌⊎◌, List, [], ◌∷◌, ◌++◌, length, get_or, take, drop, set, replicate, Some, None, Option, sym, refl, ap, ◌∙◌, inl, inr, ⊎_elim, mod-lt, div-add-mod', arith, lt-ltb, le-leb, leb-true}
+use Rattle.std.proofs.Common.{◌≡◌, ℕ, ◌+◌, ◌-◌, ◌*◌, ◌/◌, ◌%◌, ◌^◌, ◌<◌, ◌≤◌, Bool, true, false, cond, ltb, leb, List, [], ◌++◌, length, get_or, take, drop, replicate, Some, Option, sym, refl, ap, ◌∙◌, div-add-mod', arith, lt-ltb, le-leb, leb-true}
 use lib.Seq.{paste}
 use Rattle.std.specs.Option.{option_map}
 use Rattle.fields.specs.declared.version.Version.{Version}
@@ -7,12 +7,12 @@ use Rattle.fields.specs.declared.version.Version.TheVariants.{V3, V4}
 use Rattle.fields.specs.Versions.{sector_length, records_per_sector}
 use Rattle.records.specs.Bytes.{number, bytes_of, u32_at}
 use Rattle.records.proofs.NumbersBack.{number_bytes}
-use Rattle.stores.specs.Meaning.{Meaning, Whole, with_bytes, with_growth, with_count, growths_held, freed}
-use Rattle.stores.specs.Places.{record_at, records_at, Fit, Apart, outside}
+use Rattle.stores.specs.Meaning.{Whole, with_bytes, with_growth, with_count, growths_held, freed}
+use Rattle.stores.specs.Places.{record_at, records_at, Fit, Apart}
 use Rattle.stores.proofs.Pasted.{length_pasted, part_before, part_here}
 use Rattle.stores.proofs.Placed.{length-records_at, get_or-records_at, sized_records_at, written_records, outside_stands, records_behind}
 use Rattle.sector_store.specs.Sectors.{start, place, has_count, count_of, sectored, covered, sector_beside, filled, Laid}
-use Rattle.sector_store.proofs.ListedSectors.{split, sector_below, fit, apart, behind_header, covered_sector, in_its_sector}
+use Rattle.sector_store.proofs.ListedSectors.{sector_below, fit, apart, behind_header, covered_sector, in_its_sector}
 use Rattle.sector_store.proofs.Filled.{length-filled, filled_records, outside-filled, part_before_filled}
 
 -- what is in use can be

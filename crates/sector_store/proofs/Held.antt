@@ -1,5 +1,5 @@
 -- What holds of every store of sectors.
-use Rattle.std.proofs.Common.{ℕ, length}
+use Rattle.std.proofs.Common.{length}
 use Rattle.sector_store.specs.declared.SectorStore.{SectorStore}
 use Rattle.sector_store.specs.Sectors.{Laid}
 use Rattle.sector_store.proofs.ListedSectors.{unwrap}

@@ -1,5 +1,5 @@
 -- Where the records of listed sectors lie: in the bytes, apart from each other, and in listed sectors.
-use Rattle.std.proofs.Common.{◌≡◌, ℕ, zero, suc, ◌+◌, ◌*◌, ◌/◌, ◌%◌, ◌<◌, ◌≤◌, Bool, true, false, cond, ltb, leb, ◌⊎◌, List, [], ◌∷◌, length, get_or, sym, refl, ap, ◌∙◌, inl, inr, ⊎_elim, mod-lt, div-add-mod', arith, lt-ltb, le-leb}
+use Rattle.std.proofs.Common.{◌≡◌, ℕ, zero, suc, ◌+◌, ◌*◌, ◌/◌, ◌%◌, ◌<◌, ◌≤◌, Bool, true, false, cond, ◌⊎◌, List, [], ◌∷◌, length, get_or, sym, refl, ap, ◌∙◌, inl, inr, ⊎_elim, mod-lt, div-add-mod', arith, lt-ltb, le-leb}
 use mathlib.Core.Logic.{∥∥₁_elim}
 use native.Mathlib.Bridge.{le_prop}
 use Rattle.std.proofs.lemmas.Bool.{cases_eq, cases_lt}
@@ -7,7 +7,7 @@ use Rattle.fields.specs.declared.version.Version.{Version}
 use Rattle.fields.specs.declared.version.Version.TheVariants.{V3, V4}
 use Rattle.fields.specs.Versions.{sector_length, records_per_sector}
 use Rattle.stores.specs.Places.{Fit, Apart}
-use Rattle.sector_store.specs.Sectors.{start, place, Inside, in_sector, in_sectors, in_count, covered, room_for, Laid}
+use Rattle.sector_store.specs.Sectors.{start, place, in_sector, in_sectors, in_count, covered, room_for, Laid}
 use Rattle.sector_store.specs.Claims.{Surveyed}
 
 absurd_prop : (p q : ⊥) → p ≡ q

@@ -12,13 +12,12 @@
 --   sector_beside l v bs ss  what lies beside it: the lender, the list, and the bytes in no listed sector and not in the count
 --   Laid v n ss u r     what holds of such a store in n bytes: no sector in use stands twice or outside the bytes
 --   filled bs a n       bs with n freed records end to end from the place a on
-use Rattle.std.specs.Prelude.{◌≡◌, ℕ, zero, suc, ◌+◌, ◌-◌, ◌*◌, ◌/◌, ◌%◌, ◌<◌, ◌≤◌, min, Bool, true, false, cond, List, [], ◌∷◌, length, Some, None, Option, ◌≢◌, nat_le, nat_lt, slice_index}
+use Rattle.std.specs.Prelude.{ℕ, zero, suc, ◌+◌, ◌-◌, ◌*◌, ◌/◌, ◌%◌, ◌<◌, ◌≤◌, min, Bool, true, false, cond, List, [], ◌∷◌, length, Some, None, Option, ◌≢◌, nat_le, nat_lt, slice_index}
 use Rattle.std.proofs.Math.Seq.{paste}
 use Rattle.fields.specs.declared.version.Version.{Version}
 use Rattle.fields.specs.declared.version.Version.TheVariants.{V3, V4}
 use Rattle.fields.specs.Versions.{sector_length, records_per_sector}
 use Rattle.records.specs.Bytes.{u32_at}
-use Rattle.cells.specs.Repeats.{Distinct}
 use Rattle.stores.specs.Meaning.{Meaning, Beside, max_records, freed}
 use Rattle.stores.specs.Places.{records_at, outside}
 

@@ -1,6 +1,8 @@
 //! A store of records in the sectors of a compound file.
 //!
 //! `file` has the lent bytes and the lent list of sectors, `claim` how a store is made of them, and `store` its calls.
+#![tactic(auto)]
+
 ghost use Rattle.std.specs.Prelude.{length};
 ghost use Rattle.sector_store.specs.Sectors.{Laid};
 

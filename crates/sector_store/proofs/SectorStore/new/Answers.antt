@@ -1,6 +1,5 @@
-use Rattle.std.proofs.Common.{arith}
 use Rattle.sector_store.proofs.ListedSectors.{empty_laid}
 use Rattle.sector_store.proofs.SectorStore.new.Goals as goal
 
-pub invariant-of-result : goal.invariant-of-result
-invariant-of-result c = (∣ empty_laid c.args.version _ _ ∣₁, tt)
+pub invariant_of-result : goal.invariant_of-result
+invariant_of-result c = record { laid = ∣ empty_laid c.args.version _ _ ∣₁ }

@@ -1,5 +1,4 @@
-use Rattle.std.proofs.Common.{◌≡◌, ◌+◌, ◌*◌, ◌≤◌, length, ap, ◌∙◌, arith, rules}
-use Rattle.sector_store.specs.Sectors.{filled}
+use Rattle.std.proofs.Common.{◌≡◌, length, ap, ◌∙◌, arith}
 use Rattle.stores.proofs.Freed.{length-freed}
 use Rattle.sector_store.proofs.Filled.{length-filled, filled_more}
 use Rattle.sector_store.proofs.file.fill_with_freed.Goals as goal

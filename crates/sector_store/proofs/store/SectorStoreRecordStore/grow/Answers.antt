@@ -1,5 +1,4 @@
-use Rattle.std.proofs.Common.{◌≡◌, ℕ, ◌+◌, ◌*◌, ◌<◌, ◌≤◌, List, sym, refl, ap, ◌∙◌, arith, rules}
-use Rattle.fields.specs.Versions.{records_per_sector}
+use Rattle.std.proofs.Common.{ℕ, ◌<◌, ap, ◌∙◌, arith}
 use Rattle.sector_store.specs.Sectors.{start, filled}
 use Rattle.sector_store.proofs.Held.{laid_out}
 use Rattle.sector_store.proofs.Changed.{next_fits, room_numbered}
@@ -19,17 +18,17 @@ fill-requires c =
 pub overflow_add-self : goal.overflow_add-self
 overflow_add-self c = let l = laid_out c.args.self.now in omega (arith, room_numbered c.args.self.now.version _ _ _ _ l, l.few, c.if-self.false)
 
-pub invariant-of-self : goal.invariant-of-self
-invariant-of-self c =
+pub invariant_of-self : goal.invariant_of-self
+invariant_of-self c =
     let s = c.args.self.now in
     let l = laid_out s in
     let lt : s.used < s.room = omega (arith, l.few, c.if-self.false) in
     let e = c.fill.ensures.bytes ∙ ap (λ (p : ℕ). filled s.file.bytes.now p c.dir_entries_per_sector.result) c.start-at.ensures
-    ∙ ap (filled s.file.bytes.now (start s.version s.file.sectors.now s.used)) c.dir_entries_per_sector.ensures in (
-      ∣ grew_laid s.version s.file.bytes.now c.fill.new.self.bytes.now s.file.sectors.now c.fill.new.self.sectors.now s.used s.room
-          s.file.bytes.name c.fill.new.self.bytes.name l c.fill.ensures.lender c.fill.ensures.list lt e ∣₁,
-      tt,
-    )
+    ∙ ap (filled s.file.bytes.now (start s.version s.file.sectors.now s.used)) c.dir_entries_per_sector.ensures in
+    record {
+      laid = ∣ grew_laid s.version s.file.bytes.now c.fill.new.self.bytes.now s.file.sectors.now c.fill.new.self.sectors.now s.used s.room
+          s.file.bytes.ghost_name c.fill.new.self.bytes.ghost_name l c.fill.ensures.lender c.fill.ensures.list lt e ∣₁;
+    }
 
 pub returns : goal.returns
 returns c =
@@ -39,5 +38,5 @@ returns c =
     let e = c.fill.ensures.bytes ∙ ap (λ (p : ℕ). filled s.file.bytes.now p c.dir_entries_per_sector.result) c.start-at.ensures
     ∙ ap (filled s.file.bytes.now (start s.version s.file.sectors.now s.used)) c.dir_entries_per_sector.ensures in
     let g = grew s.version s.file.bytes.now c.fill.new.self.bytes.now s.file.sectors.now c.fill.new.self.sectors.now s.used s.room
-    s.file.bytes.name c.fill.new.self.bytes.name l c.fill.ensures.lender c.fill.ensures.list lt e in
+    s.file.bytes.ghost_name c.fill.new.self.bytes.ghost_name l c.fill.ensures.lender c.fill.ensures.list lt e in
     record { beside = g.0; answer = (omega (arith, lt), g.1) }

@@ -1,7 +1,6 @@
-use Rattle.std.proofs.Common.{◌≡◌, ℕ, ◌+◌, ◌*◌, ◌<◌, ◌≤◌, length, sym, refl, ap, ◌∙◌, arith, rules}
+use Rattle.std.proofs.Common.{◌*◌, ◌<◌, sym, refl, ap, ◌∙◌, arith}
 use Rattle.fields.specs.Versions.{records_per_sector}
 use Rattle.stores.specs.Places.{record_at}
-use Rattle.sector_store.specs.Sectors.{place}
 use Rattle.sector_store.proofs.Held.{laid_out}
 use Rattle.sector_store.proofs.Changed.{length-sectored, get_or-sectored, place_fits, index_listed}
 use Rattle.sector_store.proofs.store.SectorStoreRecordStore.read.Goals as goal

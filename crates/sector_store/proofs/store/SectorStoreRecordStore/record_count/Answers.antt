@@ -1,4 +1,4 @@
-use Rattle.std.proofs.Common.{◌≡◌, ℕ, ◌*◌, ◌<◌, ◌≤◌, sym, ap, ◌∙◌, arith}
+use Rattle.std.proofs.Common.{◌≡◌, ℕ, ◌*◌, sym, ap, ◌∙◌, arith}
 use Rattle.fields.specs.Versions.{records_per_sector}
 use Rattle.sector_store.proofs.Held.{laid_out}
 use Rattle.sector_store.proofs.Changed.{length-sectored, used_numbered}
