@@ -1,4 +1,6 @@
 //! Replays recorded answers of the Rust crate for single records, and counts those that differ.
+#![tactic(auto)]
+
 mod answer;
 mod case;
 
