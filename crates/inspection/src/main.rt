@@ -1,4 +1,6 @@
 //! One vehicle's inspection, followed from the names of its parts to their paths, and told in print.
+#![tactic(auto)]
+
 mod listing;
 mod sector;
 mod text;
