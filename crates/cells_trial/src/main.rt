@@ -1,4 +1,5 @@
 //! Runs a table of names against a plain list, and measures how far its searches go.
+#![tactic(auto)]
 
 mod plain;
 mod random;
