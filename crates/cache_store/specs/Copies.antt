@@ -9,7 +9,7 @@
 --   added c n r          one copy more: r, of the record n
 --   patched c i o bs     the bytes bs stand in the copy at place i from the offset o on
 --   Remembers c n r c'   c became c' when the record n was read as r: one copy more, if it had none and there was room
---   no_number             the number that no record has
+--   no_number            the number that no record has
 --   Sizes c              the arrays have the lengths that they are declared with
 use Rattle.std.specs.Prelude.{◌≡◌, ℕ, ◌+◌, ◌*◌, ◌<◌, ◌≤◌, min, List, [], ◌∷◌, length, take, ◌≢◌, slice_index, slice_index_or, slice_set}
 use Rattle.std.proofs.Math.Seq.{paste}

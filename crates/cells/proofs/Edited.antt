@@ -6,7 +6,7 @@ use Rattle.cells.specs.declared.cell.Entry.{Entry}
 use Rattle.cells.specs.Chains.{revalued}
 use Rattle.cells.specs.Maps.{value_in, Once, Dense}
 use Rattle.cells.proofs.Entries.{some_of, none_of, At, set_here}
-use Rattle.cells.proofs.Lookups.{Laws, find_none, find_some, once-put, look-put, once-gone, look-gone, gone_none}
+use Rattle.cells.proofs.Lookups.{Laws, find_none, find_some, once_put, look_put, once_gone, look_gone, gone_none}
 use Rattle.cells.proofs.Firsts.{taken_below, dense_put, dense_replace, dense_last, dense_moved}
 
 pick : {X : Type 0} (b : Bool) (x y z : X) → cond b x (cond b y z) ≡ cond b x z
@@ -29,7 +29,7 @@ module _ {K : Type 0} (same : K → K → Bool) (laws : Laws same) (vs : List (O
       Holding same (set vs count (Some e)) (count + 1) (λ k. cond (same e.key k) (Some e.value) (value_in same vs k))
   put_new e lt none =
       let free = none_of (get_or vs count None) (dense.free count (omega arith)) in
-      record { once = once-put same laws vs count e lt once free none; dense = dense_put vs count dense e lt; looks = look-put same laws vs count e lt once free none }
+      record { once = once_put same laws vs count e lt once free none; dense = dense_put vs count dense e lt; looks = look_put same laws vs count e lt once free none }
 
   module _ (key : K) (i : ℕ) (x : Entry K) (here : At vs i x) (alike : same x.key key ≡ true) where
     below : i < count
@@ -40,35 +40,35 @@ module _ {K : Type 0} (same : K → K → Bool) (laws : Laws same) (vs : List (O
 
     -- the key's entry is out
     out_once : Once same (set vs i None)
-    out_once = once-gone same laws vs i x inside once here
+    out_once = once_gone same laws vs i x inside once here
 
-    out-looks : (k : K) → value_in same (set vs i None) k ≡ cond (same key k) None (value_in same vs k)
-    out-looks k = look-gone same laws vs i x inside once here k ∙ ap (λ b. cond b None (value_in same vs k)) (agree x.key key alike k)
+    out_looks : (k : K) → value_in same (set vs i None) k ≡ cond (same key k) None (value_in same vs k)
+    out_looks k = look_gone same laws vs i x inside once here k ∙ ap (λ b. cond b None (value_in same vs k)) (agree x.key key alike k)
 
-    pub found-value : Some x.value ≡ value_in same vs key
-    found-value = sym (find_some same laws vs key i x once here alike)
+    pub found_value : Some x.value ≡ value_in same vs key
+    found_value = sym (find_some same laws vs key i x once here alike)
 
-    pub put-value : (value : ℕ) → Holding same (set vs i (revalued (get_or vs i None) value)) count (λ k. cond (same key k) (Some value) (value_in same vs k))
-    put-value value =
+    pub put_value : (value : ℕ) → Holding same (set vs i (revalued (get_or vs i None) value)) count (λ k. cond (same key k) (Some value) (value_in same vs k))
+    put_value value =
         let y : Entry K = record { key = x.key; value = value } in
         let vs1 : List (Option (Entry K)) = set vs i None in
         let n1 : i < length vs1 = rw (length-set vs i None) inside in
         let free = set_here vs i None inside in
         let none = gone_none same laws vs i x inside once here in
         let done : Holding same (set vs i (Some y)) count (λ k. cond (same key k) (Some value) (value_in same vs k)) = record {
-          once = subst (Once same) (set-set vs i None (Some y)) (once-put same laws vs1 i y n1 out_once free none);
+          once = subst (Once same) (set-set vs i None (Some y)) (once_put same laws vs1 i y n1 out_once free none);
           dense = dense_replace vs count dense i x y here;
-          looks = λ k. ap (λ ws. value_in same ws k) (sym (set-set vs i None (Some y))) ∙ look-put same laws vs1 i y n1 out_once free none k
-              ∙ ap (λ b. cond b (Some value) (value_in same vs1 k)) (agree x.key key alike k) ∙ ap (cond (same key k) (Some value)) (out-looks k) ∙ pick (same key k) (Some value) None (value_in same vs k);
+          looks = λ k. ap (λ ws. value_in same ws k) (sym (set-set vs i None (Some y))) ∙ look_put same laws vs1 i y n1 out_once free none k
+              ∙ ap (λ b. cond b (Some value) (value_in same vs1 k)) (agree x.key key alike k) ∙ ap (cond (same key k) (Some value)) (out_looks k) ∙ pick (same key k) (Some value) None (value_in same vs k);
         } in
         subst (λ o. Holding same (set vs i (revalued o value)) count (λ k. cond (same key k) (Some value) (value_in same vs k))) (sym here) done
 
-    pub drop-last : i ≡ count - 1 → Holding same (set vs i None) (count - 1) (λ k. cond (same key k) None (value_in same vs k))
-    drop-last q = let b = below in
-        record { once = out_once; dense = subst (λ j. Dense (set vs j None) (count - 1)) (sym q) (dense_last vs count dense (count - 1) (omega arith)); looks = out-looks }
+    pub drop_last : i ≡ count - 1 → Holding same (set vs i None) (count - 1) (λ k. cond (same key k) None (value_in same vs k))
+    drop_last q = let b = below in
+        record { once = out_once; dense = subst (λ j. Dense (set vs j None) (count - 1)) (sym q) (dense_last vs count dense (count - 1) (omega arith)); looks = out_looks }
 
-    pub drop-moved : (i ≡ count - 1 → ⊥) → Holding same (set (set (set vs i None) (count - 1) None) i (get_or (set vs i None) (count - 1) None)) (count - 1) (λ k. cond (same key k) None (value_in same vs k))
-    drop-moved ne =
+    pub drop_moved : (i ≡ count - 1 → ⊥) → Holding same (set (set (set vs i None) (count - 1) None) i (get_or (set vs i None) (count - 1) None)) (count - 1) (λ k. cond (same key k) None (value_in same vs k))
+    drop_moved ne =
         let b = below in let s = dense.size in
         let last : ℕ = count - 1 in
         let t = some_of (get_or vs last None) (dense.taken last (omega arith)) in let e : Entry K = t.0 in
@@ -78,22 +78,22 @@ module _ {K : Type 0} (same : K → K → Bool) (laws : Laws same) (vs : List (O
         let l2 : i < length vs2 = rw (length-set vs1 last None) (rw (length-set vs i None) inside) in
         let el : At vs1 last e = get_or-set_other vs i last None None (λ u. ne (sym u)) ∙ t.1 in
         let free : get_or vs2 i None ≡ None = get_or-set_other vs1 last i None None ne ∙ set_here vs i None inside in
-        let once2 = once-gone same laws vs1 last e l1 out_once el in
+        let once2 = once_gone same laws vs1 last e l1 out_once el in
         let none = gone_none same laws vs1 last e l1 out_once el in
         let looks : (k : K) → value_in same (set vs2 i (Some e)) k ≡ value_in same vs1 k = λ k.
-        look-put same laws vs2 i e l2 once2 free none k ∙ ap (cond (same e.key k) (Some e.value)) (look-gone same laws vs1 last e l1 out_once el k) ∙ pick (same e.key k) (Some e.value) None (value_in same vs1 k)
+        look_put same laws vs2 i e l2 once2 free none k ∙ ap (cond (same e.key k) (Some e.value)) (look_gone same laws vs1 last e l1 out_once el k) ∙ pick (same e.key k) (Some e.value) None (value_in same vs1 k)
         ∙ ⊎_elim (λ a. rw a (sym (find_some same laws vs1 k last e out_once el a))) (λ z. rw z) (cases_Bool (same e.key k)) in
         let done : Holding same (set vs2 i (Some e)) last (λ k. cond (same key k) None (value_in same vs k)) = record {
-          once = once-put same laws vs2 i e l2 once2 free none;
+          once = once_put same laws vs2 i e l2 once2 free none;
           dense = dense_moved vs count dense i last (omega arith) (omega arith) e;
-          looks = λ k. looks k ∙ out-looks k;
+          looks = λ k. looks k ∙ out_looks k;
         } in
         subst (λ o. Holding same (set vs2 i o) last (λ k. cond (same key k) None (value_in same vs k))) (sym el) done
 
   -- a key that no entry has
   module _ (key : K) (none : (j : ℕ) (e : Entry K) → At vs j e → same e.key key ≡ true → ⊥) where
-    pub lacks-value : None ≡ value_in same vs key
-    lacks-value = sym (find_none same laws vs key none)
+    pub lacks_value : None ≡ value_in same vs key
+    lacks_value = sym (find_none same laws vs key none)
 
-    pub drop-none : (k : K) → value_in same vs k ≡ cond (same key k) None (value_in same vs k)
-    drop-none k = ⊎_elim (λ t. rw t (find_none same laws vs k (λ j e q a. none j e q (laws.joins e.key k key a (laws.turns key k t))))) (λ z. rw z) (cases_Bool (same key k))
+    pub drop_none : (k : K) → value_in same vs k ≡ cond (same key k) None (value_in same vs k)
+    drop_none k = ⊎_elim (λ t. rw t (find_none same laws vs k (λ j e q a. none j e q (laws.joins e.key k key a (laws.turns key k t))))) (λ z. rw z) (cases_Bool (same key k))

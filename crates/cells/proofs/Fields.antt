@@ -29,5 +29,5 @@ module _ {K : Type 0} where
   pub nexts_set : (cells : List (Cell K)) (i : ℕ) (c : Cell K) (j : ℕ) → (j ≡ i → ⊥) → next_at (set cells i c) j ≡ next_at cells j
   nexts_set cells i c j ne = ap (λ l. get_or l j 0) (map-set (λ (x : Cell K). x.next) cells i c) ∙ get_or-set_other (map (λ (x : Cell K). x.next) cells) i j c.next 0 ne
 
-  pub next-set : (cells : List (Cell K)) (i : ℕ) (c : Cell K) → i < length cells → next_at (set cells i c) i ≡ c.next
-  next-set cells i c h = ap (λ l. get_or l i 0) (map-set (λ (x : Cell K). x.next) cells i c) ∙ get_or-set_same (map (λ (x : Cell K). x.next) cells) i c.next 0 (rw (length-map cells (λ (x : Cell K). x.next)) h)
+  pub next_set : (cells : List (Cell K)) (i : ℕ) (c : Cell K) → i < length cells → next_at (set cells i c) i ≡ c.next
+  next_set cells i c h = ap (λ l. get_or l i 0) (map-set (λ (x : Cell K). x.next) cells i c) ∙ get_or-set_same (map (λ (x : Cell K). x.next) cells) i c.next 0 (rw (length-map cells (λ (x : Cell K). x.next)) h)

@@ -4,7 +4,7 @@ use lib.Seq.{map-set_same}
 use Rattle.std.proofs.lemmas.List.{length-set}
 use Rattle.cells.specs.declared.cell.Cell.{Cell}
 use Rattle.cells.specs.Chains.{no_cell, Hooked}
-use Rattle.cells.proofs.Fields.{heads_set, head_set, nexts_set, next-set}
+use Rattle.cells.proofs.Fields.{heads_set, head_set, nexts_set, next_set}
 
 module _ {K : Type 0} where
   pub hook_head : (cells : List (Cell K)) (b before x : ℕ) (r : Cell K) → b < length cells → before ≡ no_cell → Hooked cells (set cells b (record { entry = (get_or cells b r).entry; next = (get_or cells b r).next; head = x })) b before x
@@ -28,5 +28,5 @@ module _ {K : Type 0} where
         heads = λ j _. ap (λ l. get_or l j 0) (map-set_same (λ (y : Cell K). y.head) cells before c r refl);
         nexts = λ j o. nexts_set cells before c j (⊎_elim (λ z. absurd (ne z)) (λ k. k) o);
         head = λ z. absurd (ne z);
-        next = λ _. next-set cells before c h;
+        next = λ _. next_set cells before c h;
       }

@@ -50,34 +50,34 @@ module _ {K : Type 0} (same : K → K → Bool) (laws : Laws same) where
   module _ (vs : List (Option (Entry K))) (f : ℕ) (e : Entry K) (inside : f < length vs) (once : Once same vs) where
     -- a new key
     module _ (free : get_or vs f None ≡ None) (none : (j : ℕ) (x : Entry K) → At vs j x → same x.key e.key ≡ true → ⊥) where
-      pub once-put : Once same (set vs f (Some e))
-      once-put i j x y p q a =
+      pub once_put : Once same (set vs f (Some e))
+      once_put i j x y p q a =
           ⊎_elim (λ s. ⊎_elim (λ t. s.0 ∙ sym t.0) (λ t. absurd (let u : e ≡ x = let w = s.1 in cc in none j y t.1 (laws.turns e.key y.key (rw u a)))) (at_set vs f (Some e) inside j y q))
           (λ s. ⊎_elim (λ t. absurd (let u : e ≡ y = let w = t.1 in cc in none i x s.1 (rw u a))) (λ t. once i j x y s.1 t.1 a) (at_set vs f (Some e) inside j y q))
           (at_set vs f (Some e) inside i x p)
 
-      pub look-put : (k : K) → value_in same (set vs f (Some e)) k ≡ cond (same e.key k) (Some e.value) (value_in same vs k)
+      pub look_put : (k : K) → value_in same (set vs f (Some e)) k ≡ cond (same e.key k) (Some e.value) (value_in same vs k)
       unfolding Found
-      look-put k =
-          ⊎_elim (λ t. rw t (find_some (set vs f (Some e)) k f e once-put (set_here vs f (Some e) inside) t))
+      look_put k =
+          ⊎_elim (λ t. rw t (find_some (set vs f (Some e)) k f e once_put (set_here vs f (Some e) inside) t))
           (λ z. rw z (⊎_elim
-          (λ h. find_some (set vs f (Some e)) k h.0 h.1 once-put (set_at vs f (Some e) inside h.0 h.1 (λ q. some_none h.1 (sym free ∙ ap (λ i. get_or vs i None) (sym q) ∙ h.2)) h.2) h.3
+          (λ h. find_some (set vs f (Some e)) k h.0 h.1 once_put (set_at vs f (Some e) inside h.0 h.1 (λ q. some_none h.1 (sym free ∙ ap (λ i. get_or vs i None) (sym q) ∙ h.2)) h.2) h.3
           ∙ sym (find_some vs k h.0 h.1 once h.2 h.3))
           (λ n. find_none (set vs f (Some e)) k (λ j x q a. ⊎_elim (λ s. let u : e ≡ x = let w = s.1 in cc in both (same x.key k) a (rw u at z)) (λ s. n j x s.1 a) (at_set vs f (Some e) inside j x q)) ∙ sym (find_none vs k n))
           (searched vs k))) (cases_Bool (same e.key k))
 
     -- a key given up
     module _ (taken : At vs f e) where
-      pub once-gone : Once same (set vs f None)
-      once-gone i j x y p q a =
+      pub once_gone : Once same (set vs f None)
+      once_gone i j x y p q a =
           ⊎_elim (λ s. absurd (some_none x s.1)) (λ s. ⊎_elim (λ t. absurd (some_none y t.1)) (λ t. once i j x y s.1 t.1 a) (at_set vs f None inside j y q)) (at_set vs f None inside i x p)
 
-      pub look-gone : (k : K) → value_in same (set vs f None) k ≡ cond (same e.key k) None (value_in same vs k)
+      pub look_gone : (k : K) → value_in same (set vs f None) k ≡ cond (same e.key k) None (value_in same vs k)
       unfolding Found
-      look-gone k =
+      look_gone k =
           ⊎_elim (λ t. rw t (find_none (set vs f None) k (λ j x q a. ⊎_elim (λ s. some_none x s.1) (λ s. s.0 (once j f x e s.1 taken (laws.joins x.key k e.key a (laws.turns e.key k t)))) (at_set vs f None inside j x q))))
           (λ z. rw z (⊎_elim
-          (λ h. find_some (set vs f None) k h.0 h.1 once-gone (set_at vs f None inside h.0 h.1 (λ q. let w : Some e ≡ Some h.1 = sym taken ∙ ap (λ i. get_or vs i None) (sym q) ∙ h.2 in let u : e ≡ h.1 = cc in both (same h.1.key k) h.3 (rw u at z)) h.2) h.3
+          (λ h. find_some (set vs f None) k h.0 h.1 once_gone (set_at vs f None inside h.0 h.1 (λ q. let w : Some e ≡ Some h.1 = sym taken ∙ ap (λ i. get_or vs i None) (sym q) ∙ h.2 in let u : e ≡ h.1 = cc in both (same h.1.key k) h.3 (rw u at z)) h.2) h.3
           ∙ sym (find_some vs k h.0 h.1 once h.2 h.3))
           (λ n. find_none (set vs f None) k (λ j x q a. ⊎_elim (λ s. some_none x s.1) (λ s. n j x s.1 a) (at_set vs f None inside j x q)) ∙ sym (find_none vs k n))
           (searched vs k))) (cases_Bool (same e.key k))

@@ -36,13 +36,13 @@ module _ (xs : List ℕ) (t0 t : Table SectorNumber) (i : ℕ) (m : Marking xs t
   marking_all le j r = m.fresh j (omega (arith, r.0)) r
 
   module _ (key : SectorNumber) (lt : i < length xs) (here : key.0 ≡ get_or xs i 0) where
-    pub marking-found : true ≡ is_some (lookup same_sector t key) → FirstRepeat xs i
-    marking-found h = let w = m.only key (sym h) in ((lt, (w.0, w.1, w.2 ∙ here)), m.fresh)
+    pub marking_found : true ≡ is_some (lookup same_sector t key) → FirstRepeat xs i
+    marking_found h = let w = m.only key (sym h) in ((lt, (w.0, w.1, w.2 ∙ here)), m.fresh)
 
     -- a number that was not there is put
     module _ (u : Table SectorNumber) (absent : is_some (lookup same_sector t key) ≡ false) (done : Inserted same_sector t u key 0) where
-      put-here : (k : SectorNumber) → key.0 ≡ k.0 → is_some (lookup same_sector u k) ≡ true
-      put-here k e = ap is_some (done.puts k ∙ ap (λ b. cond b (Some 0) (lookup same_sector t k)) (eq-eqb key.0 k.0 e))
+      put_here : (k : SectorNumber) → key.0 ≡ k.0 → is_some (lookup same_sector u k) ≡ true
+      put_here k e = ap is_some (done.puts k ∙ ap (λ b. cond b (Some 0) (lookup same_sector t k)) (eq-eqb key.0 k.0 e))
 
       put_other : (k : SectorNumber) → (key.0 ≡ k.0 → ⊥) → is_some (lookup same_sector u k) ≡ is_some (lookup same_sector t k)
       put_other k ne = ap is_some (done.puts k ∙ ap (λ b. cond b (Some 0) (lookup same_sector t k)) (ne_eqb key.0 k.0 ne))
@@ -53,13 +53,13 @@ module _ (xs : List ℕ) (t0 t : Table SectorNumber) (i : ℕ) (m : Marking xs t
         counted = done.counts ∙ ap (λ o. with_key o t.count) (none_of (lookup same_sector t key) absent) ∙ ap (λ n. n + 1) m.counted;
         lender = lender ∙ m.lender;
         size = size ∙ m.size;
-        holds = λ k j h e. ⊎_elim (λ q. put-here k q) (λ ne. put_other k ne ∙ m.holds k j (let d : j ≡ i → ⊥ = λ z. ne (here ∙ ap (λ n. get_or xs n 0) (sym z) ∙ e) in omega arith) e) (cases_eq key.0 k.0);
+        holds = λ k j h e. ⊎_elim (λ q. put_here k q) (λ ne. put_other k ne ∙ m.holds k j (let d : j ≡ i → ⊥ = λ z. ne (here ∙ ap (λ n. get_or xs n 0) (sym z) ∙ e) in omega arith) e) (cases_eq key.0 k.0);
         only = λ k h. ⊎_elim (λ q. (i, omega arith, sym here ∙ q)) (λ ne. let w = m.only k (sym (put_other k ne) ∙ h) in (w.0, omega (arith, w.1), w.2)) (cases_eq key.0 k.0);
         fresh = λ j h r. ⊎_elim (λ q. both (is_some (lookup same_sector t key)) (m.holds key r.1.0 (omega (arith, r.1.1)) (r.1.2 ∙ ap (λ n. get_or xs n 0) q ∙ sym here)) absent) (λ ne. m.fresh j (omega arith) r) (cases_eq j i);
       }
 
-    pub marking-more : {A : Type 0} (r : Result A Refusal) (u : Table SectorNumber) → length xs ≤ size_of t0 → false ≡ is_some (lookup same_sector t key) →
+    pub marking_more : {A : Type 0} (r : Result A Refusal) (u : Table SectorNumber) → length xs ≤ size_of t0 → false ≡ is_some (lookup same_sector t key) →
         MatchResult r (λ _. Inserted same_sector t u key 0) (λ e. (e ≡ Full) × Refused same_sector t u key) →
         Sound sector_hash same_sector u → u.cells.ghost_name ≡ t.cells.ghost_name → size_of u ≡ size_of t → Marking xs t0 u (i + 1)
-    marking-more (Ok a) u room absent done sound lender size = more u (sym absent) done sound lender size
-    marking-more (Err e) u room absent done sound lender size = absurd (let f = done.1.full in let n = m.counted in let s = m.size in omega arith)
+    marking_more (Ok a) u room absent done sound lender size = more u (sym absent) done sound lender size
+    marking_more (Err e) u room absent done sound lender size = absurd (let f = done.1.full in let n = m.counted in let s = m.size in omega arith)

@@ -6,9 +6,9 @@ use Rattle.std.proofs.lemmas.Bool.{cases_eq}
 use Rattle.cells.specs.declared.cell.Entry.{Entry}
 use Rattle.cells.specs.declared.cell.Cell.{Cell}
 use Rattle.cells.specs.Chains.{no_cell, held, head_at, next_at, revalued, Sits, Chained, Kept, Between, Hooked}
-use Rattle.cells.proofs.Fields.{held_read, length-held, nexts_set, next-set}
+use Rattle.cells.proofs.Fields.{held_read, length-held, nexts_set, next_set}
 use Rattle.cells.proofs.Gaps.{not_before}
-use Rattle.cells.proofs.Rechained.{put-chained, gone-chained, revalued-chained}
+use Rattle.cells.proofs.Rechained.{put_chained, gone_chained, revalued_chained}
 
 module _ {K : Type 0} (hash : K → ℕ) where
   pub put_all : (cells new : List (Cell K)) (h f before x : ℕ) (e : Entry K) (r : Cell K) → Kept hash cells → length cells ≤ no_cell → f < length cells → get_or (held cells) f None ≡ None → h ≡ hash e.key → Between hash cells (h % length cells) f before x →
@@ -21,14 +21,14 @@ module _ {K : Type 0} (hash : K → ℕ) where
       let holds : held new ≡ set (held cells) f (Some e) = hooked.same ∙ map-set (λ (y : Cell K). y.entry) cells f c in
       let heads : (j : ℕ) → head_at (set cells f c) j ≡ head_at cells j = λ j. ap (λ l. get_or l j 0) (map-set_same (λ (y : Cell K). y.head) cells f c r refl) in
       let done : Chained hash n (λ j. get_or (held new) j None) (head_at new) (next_at new) =
-      put-chained hash n (λ j. get_or (held cells) j None) (λ j. get_or (held new) j None) (head_at cells) (head_at new) (next_at cells) (next_at new) (h % n) f before x e
+      put_chained hash n (λ j. get_or (held cells) j None) (λ j. get_or (held new) j None) (head_at cells) (head_at new) (next_at cells) (next_at new) (h % n) f before x e
       kept.chained (omega arith) inside gap.step gap.past (ap (λ y. y % n) (sym q))
       (λ j ne. ap (λ l. get_or l j None) holds ∙ get_or-set_other (held cells) f j (Some e) None ne)
       (λ j ne. hooked.heads j ne ∙ heads j)
       free (ap (λ l. get_or l f None) holds ∙ get_or-set_same (held cells) f (Some e) None (rw (length-held cells) inside))
       (λ j ne o. hooked.nexts j o ∙ nexts_set cells f c j ne)
       hooked.head hooked.next
-      (hooked.nexts f (not_before hash cells (h % n) f before x gap) ∙ next-set cells f c inside) in
+      (hooked.nexts f (not_before hash cells (h % n) f before x gap) ∙ next_set cells f c inside) in
       (record { chained = subst (λ m. Chained hash m (λ j. get_or (held new) j None) (head_at new) (next_at new)) (sym size) done }, holds)
 
   pub gone_all : (cells new : List (Cell K)) (h f before x : ℕ) (e : Entry K) (r : Cell K) → Kept hash cells → length cells ≤ no_cell → f < length cells → r ≡ get_or cells f r → r.entry ≡ Some e → h ≡ hash e.key → Between hash cells (h % length cells) f before x →
@@ -43,7 +43,7 @@ module _ {K : Type 0} (hash : K → ℕ) where
       let nexts : (j : ℕ) → next_at (set cells f c) j ≡ next_at cells j = λ j. ap (λ l. get_or l j 0) (map-set_same (λ (y : Cell K). y.next) cells f c r (ap (λ (y : Cell K). y.next) is)) in
       let on : next_at cells f ≡ r.next = get_or-map (λ (y : Cell K). y.next) cells f r 0 inside ∙ ap (λ (y : Cell K). y.next) (sym is) in
       let done : Chained hash n (λ j. get_or (held new) j None) (head_at new) (next_at new) =
-      gone-chained hash n (λ j. get_or (held cells) j None) (λ j. get_or (held new) j None) (head_at cells) (head_at new) (next_at cells) (next_at new) (h % n) f before x e
+      gone_chained hash n (λ j. get_or (held cells) j None) (λ j. get_or (held new) j None) (head_at cells) (head_at new) (next_at cells) (next_at new) (h % n) f before x e
       kept.chained (omega arith) inside gap.step gap.past (ap (λ y. y % n) (sym q))
       (λ j ne. ap (λ l. get_or l j None) holds ∙ get_or-set_other (held cells) f j None None ne)
       (λ j ne. hooked.heads j ne ∙ heads j)
@@ -64,7 +64,7 @@ module _ {K : Type 0} (hash : K → ℕ) where
       let others : (j : ℕ) → (j ≡ f → ⊥) → get_or (held (set cells f c)) j None ≡ get_or (held cells) j None = λ j ne. ap (λ l. get_or l j None) holds ∙ get_or-set_other (held cells) f j (Some y) None ne in
       let n : ℕ = length cells in
       let done : Chained hash n (λ j. get_or (held (set cells f c)) j None) (head_at (set cells f c)) (next_at (set cells f c)) =
-      revalued-chained hash n (λ j. get_or (held cells) j None) (λ j. get_or (held (set cells f c)) j None) (head_at cells) (head_at (set cells f c)) (next_at cells) (next_at (set cells f c)) kept.chained
+      revalued_chained hash n (λ j. get_or (held cells) j None) (λ j. get_or (held (set cells f c)) j None) (head_at cells) (head_at (set cells f c)) (next_at cells) (next_at (set cells f c)) kept.chained
       (λ j. ap (λ l. get_or l j 0) (map-set_same (λ (z : Cell K). z.head) cells f c r (ap (λ (z : Cell K). z.head) is)))
       (λ j. ap (λ l. get_or l j 0) (map-set_same (λ (z : Cell K). z.next) cells f c r (ap (λ (z : Cell K). z.next) is)))
       (λ b j s. ⊎_elim (λ u. subst (Sits hash n b) (sym (ap (λ i. get_or (held (set cells f c)) i None) u ∙ here)) (subst (Sits hash n b) (ap (λ i. get_or (held cells) i None) u ∙ was) s)) (λ ne. subst (Sits hash n b) (sym (others j ne)) s) (cases_eq j f))

@@ -50,8 +50,8 @@ module _ {K : Type 0} (hash : K → ℕ) (n : ℕ) (v w : ℕ → Option (Entry 
     apart : (c from y : ℕ) → ((c ≡ b) → (f < from) ⊎ (y ≤ f)) → Link (λ j. Sits hash n c (v j)) from y → Link (λ j. Sits hash n c (w j)) from y
     apart c from y ok l = kept_link _ _ from y (up c y) (λ j a k s. ⊎_elim (λ q. ⊎_elim (λ lt. stays c j (λ z. omega arith) s) (λ le. stays c j (λ z. omega arith) s) (ok q)) (λ ne. other c j ne s) (cases_eq c b)) l
 
-    old-entry : (i : ℕ) (y : Entry K) → (i ≡ f → ⊥) → w i ≡ Some y → v i ≡ Some y
-    old-entry i y ne q = sym (others i ne) ∙ q
+    old_entry : (i : ℕ) (y : Entry K) → (i ≡ f → ⊥) → w i ≡ Some y → v i ≡ Some y
+    old_entry i y ne q = sym (others i ne) ∙ q
 
     -- a link from i goes past f only at `before`
     clear : (i : ℕ) (y : Entry K) → v i ≡ Some y → (i ≡ f → ⊥) → (before ≡ no_cell) ⊎ (i ≡ before → ⊥) → Link (λ j. Sits hash n (hash y.key % n) (v j)) (i + 1) (N i) → hash y.key % n ≡ b → (f < i + 1) ⊎ (N i ≤ f)
@@ -59,8 +59,8 @@ module _ {K : Type 0} (hash : K → ℕ) (n : ℕ) (v w : ℕ → Option (Entry 
         ⊎_elim (λ lt. let k : N i < f = beside (λ j. Sits hash n b (v j)) H N b f before x step past (omega arith) i (N i) (sits_put hash n b (v i) y vi q) lt o (subst (λ c. Link (λ j. Sits hash n c (v j)) (i + 1) (N i)) q l) in inr (omega arith))
         (λ le. inl (omega arith)) (cases_lt i f)
 
-    new-heads : (c : ℕ) → c < n → Link (λ j. Sits hash n c (w j)) 0 (H' c)
-    new-heads c lt =
+    new_heads : (c : ℕ) → c < n → Link (λ j. Sits hash n c (w j)) 0 (H' c)
+    new_heads c lt =
         ⊎_elim (λ z. ⊎_elim (λ q. subst (λ d. Link (λ j. Sits hash n d (w j)) 0 (H' d)) (sym q) (subst (λ y. Link (λ j. Sits hash n b (w j)) 0 y) (sym (head z))
         (⊎_elim (λ s. hooked 0 (omega arith) s.2) (λ s. absurd (omega (arith, s.0))) step)))
         (λ ne. subst (λ y. Link (λ j. Sits hash n c (w j)) 0 y) (sym (heads c (λ _ q. ne q))) (apart c 0 (H c) (λ q. absurd (ne q)) (kept.heads c lt))) (cases_eq c b))
@@ -72,13 +72,13 @@ module _ {K : Type 0} (hash : K → ℕ) (n : ℕ) (v w : ℕ → Option (Entry 
         let l = kept.nexts i y vi in
         subst (λ z. Link (λ j. Sits hash n (hash y.key % n) (w j)) (i + 1) z) (sym (nexts i ne o)) (apart (hash y.key % n) (i + 1) (N i) (clear i y vi ne o l) l)
 
-    new-nexts : (i : ℕ) (y : Entry K) → w i ≡ Some y → Link (λ j. Sits hash n (hash y.key % n) (w j)) (i + 1) (N' i)
-    new-nexts i y q =
+    new_nexts : (i : ℕ) (y : Entry K) → w i ≡ Some y → Link (λ j. Sits hash n (hash y.key % n) (w j)) (i + 1) (N' i)
+    new_nexts i y q =
         ⊎_elim (λ at. let t : Some e ≡ Some y = sym new ∙ ap w (sym at) ∙ q in let u : e ≡ y = cc in
         let bk : b ≡ hash y.key % n = sym bucket ∙ ap (λ (z : Entry K). hash z.key % n) u in
         subst (λ c. Link (λ j. Sits hash n c (w j)) (i + 1) (N' i)) bk (subst (λ k. Link (λ j. Sits hash n b (w j)) (k + 1) (N' k)) (sym at) (subst (λ z. Link (λ j. Sits hash n b (w j)) (f + 1) z) (sym on)
         (⊎_elim (λ s. onward 0 (omega arith) s.2) (λ s. onward (before + 1) (omega (arith, s.0)) s.3) step))))
-        (λ ne. let vi = old-entry i y ne q in
+        (λ ne. let vi = old_entry i y ne q in
         ⊎_elim (λ z. plain i y vi ne (inl z))
         (λ some. ⊎_elim (λ at.
         ⊎_elim (λ s. absurd (some s.0))
@@ -86,8 +86,8 @@ module _ {K : Type 0} (hash : K → ℕ) (n : ℕ) (v w : ℕ → Option (Entry 
         subst (λ c. Link (λ j. Sits hash n c (w j)) (i + 1) (N' i)) bk (subst (λ k. Link (λ j. Sits hash n b (w j)) (k + 1) (N' k)) (sym at) (subst (λ z. Link (λ j. Sits hash n b (w j)) (before + 1) z) (sym (next some)) (hooked (before + 1) (omega (arith, s.0)) s.3)))) step)
         (λ no'. plain i y vi ne (inr no')) (cases_eq i before)) (cases_eq before no_cell)) (cases_eq i f)
 
-    pub put-chained : Chained hash n w H' N'
-    put-chained = record { heads = new-heads; nexts = new-nexts }
+    pub put_chained : Chained hash n w H' N'
+    put_chained = record { heads = new_heads; nexts = new_nexts }
 
   -- f is given up: what linked to it links to what it linked to
   module _ (taken : v f ≡ Some e) (gone : w f ≡ None)
@@ -111,8 +111,8 @@ module _ {K : Type 0} (hash : K → ℕ) (n : ℕ) (v w : ℕ → Option (Entry 
     rest : (c from y : ℕ) → (c ≡ b → y ≡ f → ⊥) → Link (λ j. Sits hash n c (v j)) from y → Link (λ j. Sits hash n c (w j)) from y
     rest c from y ok l = kept_link _ _ from y (λ s. stays' c y (λ q. ok (sym (sits_at hash n c (v y) e (ap v q ∙ taken) s) ∙ bucket) q) s) (λ j _ _ s. left c j s) l
 
-    rest-heads : (c : ℕ) → c < n → Link (λ j. Sits hash n c (w j)) 0 (H' c)
-    rest-heads c lt =
+    rest_heads : (c : ℕ) → c < n → Link (λ j. Sits hash n c (w j)) 0 (H' c)
+    rest_heads c lt =
         ⊎_elim (λ z. ⊎_elim (λ q. subst (λ d. Link (λ j. Sits hash n d (w j)) 0 (H' d)) (sym q) (subst (λ y. Link (λ j. Sits hash n b (w j)) 0 y) (sym (head z))
         (⊎_elim (λ s. skip 0 (omega arith) s.2) (λ s. absurd (omega (arith, s.0))) step)))
         (λ ne. subst (λ y. Link (λ j. Sits hash n c (w j)) 0 y) (sym (heads c (λ _ q. ne q))) (rest c 0 (H c) (λ q _. ne q) (kept.heads c lt))) (cases_eq c b))
@@ -125,8 +125,8 @@ module _ {K : Type 0} (hash : K → ℕ) (n : ℕ) (v w : ℕ → Option (Entry 
         subst (λ z. Link (λ j. Sits hash n (hash y.key % n) (w j)) (i + 1) z) (sym (nexts i o))
         (rest (hash y.key % n) (i + 1) (N i) (λ q u. ⊎_elim (λ z. omega arith) (λ s. let k : N i < f = beside (λ j. Sits hash n b (v j)) H N b f before x step past (omega arith) i (N i) (sits_put hash n b (v i) y vi q) (omega (arith, s.0)) o (subst (λ c. Link (λ j. Sits hash n c (v j)) (i + 1) (N i)) q l) in omega arith) (ends l)) l)
 
-    rest-nexts : (i : ℕ) (y : Entry K) → w i ≡ Some y → Link (λ j. Sits hash n (hash y.key % n) (w j)) (i + 1) (N' i)
-    rest-nexts i y q =
+    rest_nexts : (i : ℕ) (y : Entry K) → w i ≡ Some y → Link (λ j. Sits hash n (hash y.key % n) (w j)) (i + 1) (N' i)
+    rest_nexts i y q =
         let ne : i ≡ f → ⊥ = λ u. let t : ◌≡◌ {A = Option (Entry K)} None (Some y) = sym gone ∙ ap w (sym u) ∙ q in let o : ◌≡◌ {A = ℕ} 0 1 = cc in omega arith in
         let vi : v i ≡ Some y = sym (others i ne) ∙ q in
         ⊎_elim (λ z. still i y vi (inl z))
@@ -136,8 +136,8 @@ module _ {K : Type 0} (hash : K → ℕ) (n : ℕ) (v w : ℕ → Option (Entry 
         subst (λ c. Link (λ j. Sits hash n c (w j)) (i + 1) (N' i)) bk (subst (λ k. Link (λ j. Sits hash n b (w j)) (k + 1) (N' k)) (sym at) (subst (λ z. Link (λ j. Sits hash n b (w j)) (before + 1) z) (sym (next some)) (skip (before + 1) (omega (arith, s.0)) s.3)))) step)
         (λ no'. still i y vi (inr no')) (cases_eq i before)) (cases_eq before no_cell)
 
-    pub gone-chained : Chained hash n w H' N'
-    gone-chained = record { heads = rest-heads; nexts = rest-nexts }
+    pub gone_chained : Chained hash n w H' N'
+    gone_chained = record { heads = rest_heads; nexts = rest_nexts }
 
 -- a value alone is changed, or more than one: every key sits where it sat
 module _ {K : Type 0} (hash : K → ℕ) (n : ℕ) (v w : ℕ → Option (Entry K)) (H H' N N' : ℕ → ℕ)
@@ -147,8 +147,8 @@ module _ {K : Type 0} (hash : K → ℕ) (n : ℕ) (v w : ℕ → Option (Entry 
   moved : (c from x : ℕ) → Link (λ j. Sits hash n c (v j)) from x → Link (λ j. Sits hash n c (w j)) from x
   moved c from x l = kept_link _ _ from x (there c x) (λ j _ _ s. back c j s) l
 
-  pub revalued-chained : Chained hash n w H' N'
-  revalued-chained = record {
+  pub revalued_chained : Chained hash n w H' N'
+  revalued_chained = record {
     heads = λ b lt. subst (λ z. Link (λ j. Sits hash n b (w j)) 0 z) (sym (heads b)) (moved b 0 (H b) (kept.heads b lt));
     nexts = λ i y q. let k = keys i y q in
         subst (λ z. Link (λ j. Sits hash n (hash y.key % n) (w j)) (i + 1) z) (sym (nexts i))

@@ -11,7 +11,7 @@ use Rattle.cells.proofs.Fields.{length-held}
 use Rattle.cells.proofs.Entries.{some_none, At, set_here}
 use Rattle.cells.proofs.Lookups.{Laws, find_none}
 use Rattle.cells.proofs.Firsts.{taken_below}
-use Rattle.cells.proofs.Edited.{Holding, put_new, found-value, put-value, drop-last, drop-moved, lacks-value, drop-none}
+use Rattle.cells.proofs.Edited.{Holding, put_new, found_value, put_value, drop_last, drop_moved, lacks_value, drop_none}
 
 -- nothing to move: the hole stays
 pub fill_none : {K : Type 0} (vs : List (Option (Entry K))) (hole last : ℕ) → get_or vs hole None ≡ None → None ≡ get_or vs last None → set vs last None ≡ set (set vs last None) hole (get_or vs last None)
@@ -59,30 +59,30 @@ module _ {K : Type 0} (hash : K → ℕ) (same : K → K → Bool) (laws : Laws 
   -- a key that is there, in cell i
   module _ (key : K) (i : ℕ) (holds : Holds same cells key i) where
     pub value_there : (v : Option ℕ) → v ≡ valued (get_or (held cells) i None) → v ≡ value_in same (held cells) key
-    value_there v q = q ∙ ap valued holds.here ∙ found-value same laws (held cells) count rules.once rules.dense key i holds.entry holds.here holds.alike
+    value_there v q = q ∙ ap valued holds.here ∙ found_value same laws (held cells) count rules.once rules.dense key i holds.entry holds.here holds.alike
 
     pub value_taken : (e : Entry K) → Some e ≡ get_or (held cells) i None → Some e.value ≡ value_in same (held cells) key
-    value_taken e q = found-value same laws (held cells) count rules.once rules.dense key i e (sym q) (let u : Some e ≡ Some holds.entry = q ∙ holds.here in let v : e ≡ holds.entry = cc in rw v holds.alike)
+    value_taken e q = found_value same laws (held cells) count rules.once rules.dense key i e (sym q) (let u : Some e ≡ Some holds.entry = q ∙ holds.here in let v : e ≡ holds.entry = cc in rw v holds.alike)
 
-    pub below-count : i < count
-    below-count = taken_below (held cells) count rules.dense i holds.entry holds.here
+    pub below_count : i < count
+    below_count = taken_below (held cells) count rules.dense i holds.entry holds.here
 
-    value-is : Some holds.entry.value ≡ value_in same (held cells) key
-    value-is = found-value same laws (held cells) count rules.once rules.dense key i holds.entry holds.here holds.alike
+    value_is : Some holds.entry.value ≡ value_in same (held cells) key
+    value_is = found_value same laws (held cells) count rules.once rules.dense key i holds.entry holds.here holds.alike
 
-    pub insert-there : (new : List (Cell K)) (value : ℕ) → Kept hash new → held new ≡ set (held cells) i (revalued (get_or (held cells) i None) value) →
+    pub insert_there : (new : List (Cell K)) (value : ℕ) → Kept hash new → held new ≡ set (held cells) i (revalued (get_or (held cells) i None) value) →
         Rules hash same new count × Puts same (value_in same (held cells)) (value_in same (held new)) key value × (count ≡ with_key (value_in same (held cells) key) count)
-    insert-there new value kept is =
-        let d = known new _ count _ kept is (put-value same laws (held cells) count rules.once rules.dense key i holds.entry holds.here holds.alike value) in
-        (d.0, d.1, ap (λ o. with_key o count) value-is)
+    insert_there new value kept is =
+        let d = known new _ count _ kept is (put_value same laws (held cells) count rules.once rules.dense key i holds.entry holds.here holds.alike value) in
+        (d.0, d.1, ap (λ o. with_key o count) value_is)
 
     fewer : count - 1 ≡ without_key (value_in same (held cells) key) count
-    fewer = ap (λ o. without_key o count) value-is
+    fewer = ap (λ o. without_key o count) value_is
 
     -- what is given up last has nothing to move; else the last entry moves
-    pub remove-there : (mid new : List (Cell K)) → held mid ≡ set (held cells) i None → Kept hash new → held new ≡ set (set (held mid) (count - 1) None) i (get_or (held mid) (count - 1) None) →
+    pub remove_there : (mid new : List (Cell K)) → held mid ≡ set (held cells) i None → Kept hash new → held new ≡ set (set (held mid) (count - 1) None) i (get_or (held mid) (count - 1) None) →
         Rules hash same new (count - 1) × Drops same (value_in same (held cells)) (value_in same (held new)) key × (count - 1 ≡ without_key (value_in same (held cells) key) count)
-    remove-there mid new hm kept is =
+    remove_there mid new hm kept is =
         let vs : List (Option (Entry K)) = held cells in
         let here : get_or (set vs i None) i None ≡ None = set_here vs i None (rw (length-held cells) holds.inside) in
         let is' : held new ≡ set (set (set vs i None) (count - 1) None) i (get_or (set vs i None) (count - 1) None) = subst (λ us. held new ≡ set (set us (count - 1) None) i (get_or us (count - 1) None)) hm is in
@@ -90,27 +90,27 @@ module _ {K : Type 0} (hash : K → ℕ) (same : K → K → Bool) (laws : Laws 
         (λ q. known new _ (count - 1) _ kept
         (subst (λ j. held new ≡ set (set (set vs i None) j None) i (get_or (set vs i None) j None)) (sym q) is'
         ∙ ap (λ us. set us i (get_or (set vs i None) i None)) (set-set vs i None None) ∙ ap (set (set vs i None) i) here ∙ set-set vs i None None)
-        (drop-last same laws vs count rules.once rules.dense key i holds.entry holds.here holds.alike q))
-        (λ ne. known new _ (count - 1) _ kept is' (drop-moved same laws vs count rules.once rules.dense key i holds.entry holds.here holds.alike ne))
+        (drop_last same laws vs count rules.once rules.dense key i holds.entry holds.here holds.alike q))
+        (λ ne. known new _ (count - 1) _ kept is' (drop_moved same laws vs count rules.once rules.dense key i holds.entry holds.here holds.alike ne))
         (cases_eq i (count - 1)) in
         (d.0, d.1, fewer)
 
-    pub hole-there : (mid : List (Cell K)) → held mid ≡ set (held cells) i None → get_or (held mid) i None ≡ None
-    hole-there mid hm = ap (λ vs. get_or vs i None) hm ∙ set_here (held cells) i None (rw (length-held cells) holds.inside)
+    pub hole_there : (mid : List (Cell K)) → held mid ≡ set (held cells) i None → get_or (held mid) i None ≡ None
+    hole_there mid hm = ap (λ vs. get_or vs i None) hm ∙ set_here (held cells) i None (rw (length-held cells) holds.inside)
 
   -- a key that is not there
   module _ (key : K) (lacks : Lacks same cells key) where
     pub no_value : None ≡ value_in same (held cells) key
-    no_value = lacks-value same laws (held cells) count rules.once rules.dense key lacks.none
+    no_value = lacks_value same laws (held cells) count rules.once rules.dense key lacks.none
 
-    pub insert-new : (new : List (Cell K)) (value : ℕ) → count < length cells → Kept hash new → held new ≡ set (held cells) count (Some (record { key = key; value = value })) →
+    pub insert_new : (new : List (Cell K)) (value : ℕ) → count < length cells → Kept hash new → held new ≡ set (held cells) count (Some (record { key = key; value = value })) →
         Rules hash same new (count + 1) × Puts same (value_in same (held cells)) (value_in same (held new)) key value × (count + 1 ≡ with_key (value_in same (held cells) key) count)
-    insert-new new value lt kept is =
+    insert_new new value lt kept is =
         let d = known new _ (count + 1) _ kept is (put_new same laws (held cells) count rules.once rules.dense (record { key = key; value = value }) (rw (length-held cells) lt) lacks.none) in
         (d.0, d.1, ap (λ o. with_key o count) no_value)
 
-    pub remove-none : Drops same (value_in same (held cells)) (value_in same (held cells)) key × (count ≡ without_key (value_in same (held cells) key) count)
-    remove-none = (drop-none same laws (held cells) count rules.once rules.dense key lacks.none, ap (λ o. without_key o count) no_value)
+    pub remove_none : Drops same (value_in same (held cells)) (value_in same (held cells)) key × (count ≡ without_key (value_in same (held cells) key) count)
+    remove_none = (drop_none same laws (held cells) count rules.once rules.dense key lacks.none, ap (λ o. without_key o count) no_value)
 
   pub size_held : count ≤ length cells
   size_held = let s = rules.dense.size in let n = length-held cells in omega arith

@@ -1,23 +1,23 @@
 -- What stands in the cells. Only this crate's own code speaks of it; callers see the map of Maps.
 --
--- no_cell     the number that stands where there is no cell
--- emptied    a cell that holds nothing
--- held       what the cells hold, cell by cell, their links left out
--- head_at     the first cell of a bucket's chain, as the cells say it
--- next_at     the next cell of a chain, as the cells say it
--- valued     an entry's value
--- revalued   an entry with another value
--- Sits       what a cell holds belongs into a bucket
--- In         a cell is taken by an entry of a bucket
--- Link       a number is the first with a property, from a number on; or there is none
--- Chained    every link goes to the next taken cell of its bucket, by number
--- Kept       the cells are chained
--- Holds      a cell holds a key the same as a given one
--- Lacks      no cell holds one
--- Passed     a walk along a key's chain has come to a cell, and the key is in no cell before it
--- Step       a link of a bucket's chain that begins before a given cell
--- Between    the link that goes past a given cell, or to it
--- Hooked     one link was changed, and nothing else
+-- no_cell   the number that stands where there is no cell
+-- emptied   a cell that holds nothing
+-- held      what the cells hold, cell by cell, their links left out
+-- head_at   the first cell of a bucket's chain, as the cells say it
+-- next_at   the next cell of a chain, as the cells say it
+-- valued    an entry's value
+-- revalued  an entry with another value
+-- Sits      what a cell holds belongs into a bucket
+-- In        a cell is taken by an entry of a bucket
+-- Link      a number is the first with a property, from a number on; or there is none
+-- Chained   every link goes to the next taken cell of its bucket, by number
+-- Kept      the cells are chained
+-- Holds     a cell holds a key the same as a given one
+-- Lacks     no cell holds one
+-- Passed    a walk along a key's chain has come to a cell, and the key is in no cell before it
+-- Step      a link of a bucket's chain that begins before a given cell
+-- Between   the link that goes past a given cell, or to it
+-- Hooked    one link was changed, and nothing else
 
 use Rattle.std.specs.Prelude.{◌≡◌, ℕ, ◌+◌, ◌%◌, ◌<◌, ◌≤◌, Bool, true, ◌⊎◌, List, map, length, get_or, Some, None, Option, ◌≢◌, slice_index, slice_index_or}
 use Rattle.cells.specs.declared.cell.Entry.{Entry}

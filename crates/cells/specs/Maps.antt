@@ -3,19 +3,19 @@
 -- cells_of     the lent cells of a table
 -- size_of      how many cells it has
 -- value_in     the value under a key, in a list of what cells hold
--- lookup      the value under a key, or none: the table as a map
--- Puts        one map is another with a value put under a key
--- Drops       one map is another without a key
--- Blank       a map without keys
+-- lookup       the value under a key, or none: the table as a map
+-- Puts         one map is another with a value put under a key
+-- Drops        one map is another without a key
+-- Blank        a map without keys
 -- with_key     the number of keys after a key is put, by what was under it
 -- without_key  the number of keys after a key is dropped, by what was under it
--- Inserted    what an accepted insertion leaves
--- Refused     when an insertion is refused, and what that leaves
--- Empty       every cell is empty
--- Once        no key is in two cells
--- Dense       the keys are in the first cells, one in each
--- Rules       the cells are chained, no key is in two, and the first ones are taken
--- Sound       a table keeps the rules: it is one that this crate made
+-- Inserted     what an accepted insertion leaves
+-- Refused      when an insertion is refused, and what that leaves
+-- Empty        every cell is empty
+-- Once         no key is in two cells
+-- Dense        the keys are in the first cells, one in each
+-- Rules        the cells are chained, no key is in two, and the first ones are taken
+-- Sound        a table keeps the rules: it is one that this crate made
 
 use Rattle.std.specs.Prelude.{◌≡◌, ℕ, ◌+◌, ◌-◌, ◌<◌, ◌≤◌, Bool, true, false, cond, List, [], ◌∷◌, length, is_some, Some, None, Option, slice_index_or}
 use Rattle.cells.specs.declared.cell.Entry.{Entry}

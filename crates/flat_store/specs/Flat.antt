@@ -1,9 +1,9 @@
 -- Records end to end in lent bytes.
 --
---   place k            where the record k begins
---   room bs            how many records the bytes have room for, as far as there are numbers for them
---   flat v bs n        what a flat store of n records means: no more of them than there is room for
---   flat_beside l bs    what lies beside it: the lender, and the bytes behind the last whole record
+--   place k               where the record k begins
+--   room bs               how many records the bytes have room for, as far as there are numbers for them
+--   flat v bs n           what a flat store of n records means: no more of them than there is room for
+--   flat_beside l bs      what lies beside it: the lender, and the bytes behind the last whole record
 --   meant s, beside_of s  the same of a store
 use Rattle.std.specs.Prelude.{ℕ, ◌-◌, ◌*◌, ◌/◌, min, List, [], length, None, nat_lt}
 use Rattle.flat_store.specs.declared.FlatStore.{FlatStore}

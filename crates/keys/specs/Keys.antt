@@ -1,9 +1,9 @@
 -- The kinds of key.
 --
--- seed       the hash of nothing
--- mixed      a hash with one more number mixed in
+-- seed        the hash of nothing
+-- mixed       a hash with one more number mixed in
 -- mixed_all   a hash with the numbers of a list mixed in, one by one
--- Child      a name below a storage: the storage's number and the name's key
+-- Child       a name below a storage: the storage's number and the name's key
 -- child_of    the child that a ChildKey stands for
 -- same_child  whether two stand for the same child
 -- child_hash  the hash of a ChildKey

@@ -24,12 +24,12 @@ codes_unit u (v ∷ us) n = rw (no_high u v n) refl
 pub spells_codes : (us : List ℕ) → well_formed us ≡ true → Spells us (codes us)
 spells_codes [] w = nothing
 spells_codes (u ∷ []) w = single (not-true (surrogate u) (and_parts (not (surrogate u)) true w).0) nothing
-spells_codes (u ∷ v ∷ us) w = by-pair (high u && low v) refl w (spells_codes us) (spells_codes (v ∷ us))
+spells_codes (u ∷ v ∷ us) w = by_pair (high u && low v) refl w (spells_codes us) (spells_codes (v ∷ us))
   where
-    by-pair : (b : Bool) → (high u && low v) ≡ b → no_surrogate (cond b (joined u v ∷ codes us) (u ∷ codes (v ∷ us))) ≡ true → (well_formed us ≡ true → Spells us (codes us)) → (well_formed (v ∷ us) ≡ true → Spells (v ∷ us) (codes (v ∷ us))) → Spells (u ∷ v ∷ us) (cond b (joined u v ∷ codes us) (u ∷ codes (v ∷ us)))
-    by-pair true e w two one =
+    by_pair : (b : Bool) → (high u && low v) ≡ b → no_surrogate (cond b (joined u v ∷ codes us) (u ∷ codes (v ∷ us))) ≡ true → (well_formed us ≡ true → Spells us (codes us)) → (well_formed (v ∷ us) ≡ true → Spells (v ∷ us) (codes (v ∷ us))) → Spells (u ∷ v ∷ us) (cond b (joined u v ∷ codes us) (u ∷ codes (v ∷ us)))
+    by_pair true e w two one =
         let b = and_parts (high u) (low v) e in pair b.0 b.1 (two (and_parts (not (surrogate (joined u v))) (no_surrogate (codes us)) w).1)
-    by-pair false e w two one =
+    by_pair false e w two one =
         let b = and_parts (not (surrogate u)) (no_surrogate (codes (v ∷ us))) w in single (not-true (surrogate u) b.0) (one b.1)
 
 pub codes-spelled : {us cs : List ℕ} → Spells us cs → cs ≡ codes us

@@ -34,17 +34,17 @@ pub lexical_ranked : (xs ys : List ℕ) → MatchOrdering (lexical xs ys) (First
 lexical_ranked [] [] = refl
 lexical_ranked [] (y ∷ ys) = shorter
 lexical_ranked (x ∷ xs) [] = shorter
-lexical_ranked (x ∷ xs) (y ∷ ys) = by-head (numbers x y) (lexical xs ys) (numbers_ranked x y) (lexical_ranked xs ys)
+lexical_ranked (x ∷ xs) (y ∷ ys) = by_head (numbers x y) (lexical xs ys) (numbers_ranked x y) (lexical_ranked xs ys)
   where
     moved : {a b : ℕ} (e : a ≡ b) (as' bs : List ℕ) → First as' bs → First (a ∷ as') (b ∷ bs)
     moved {a} e as' bs f = subst (λ v. First (a ∷ as') (v ∷ bs)) e (later f)
 
-    by-head : (o p : Ordering) → MatchOrdering o (x < y) (x ≡ y) (y < x) → MatchOrdering p (First xs ys) (xs ≡ ys) (First ys xs) → MatchOrdering (ordering_then o p) (First (x ∷ xs) (y ∷ ys)) (x ∷ xs ≡ y ∷ ys) (First (y ∷ ys) (x ∷ xs))
-    by-head Less p h k = lower h
-    by-head Equal Less h k = moved h xs ys k
-    by-head Equal Equal h k = ap₂ (λ a b. a ∷ b) h k
-    by-head Equal Greater h k = moved (sym h) ys xs k
-    by-head Greater p h k = lower h
+    by_head : (o p : Ordering) → MatchOrdering o (x < y) (x ≡ y) (y < x) → MatchOrdering p (First xs ys) (xs ≡ ys) (First ys xs) → MatchOrdering (ordering_then o p) (First (x ∷ xs) (y ∷ ys)) (x ∷ xs ≡ y ∷ ys) (First (y ∷ ys) (x ∷ xs))
+    by_head Less p h k = lower h
+    by_head Equal Less h k = moved h xs ys k
+    by_head Equal Equal h k = ap₂ (λ a b. a ∷ b) h k
+    by_head Equal Greater h k = moved (sym h) ys xs k
+    by_head Greater p h k = lower h
 
 -- the answer for two keys tells which stands before
 pub order_ranked : (j k : Key) → MatchOrdering (order j k) (Before j k) (j ≡ k) (Before k j)

@@ -1,11 +1,11 @@
 -- Parts of a path as its reader and a chain of names hold them.
 --
 --   no_piece, no_place  what stands where there is no piece, no place
---   piece_of p         the piece that a `Part` is
---   Stands p us       a part is the piece of us at its place
---   piece_at us pl     the piece of us at a place
---   left r            the pieces that a reader has yet to give
---   chained c         the names of a chain, from the root down
+--   piece_of p          the piece that a `Part` is
+--   Stands p us         a part is the piece of us at its place
+--   piece_at us pl      the piece of us at a place
+--   left r              the pieces that a reader has yet to give
+--   chained c           the names of a chain, from the root down
 use Rattle.std.specs.Prelude.{◌≡◌, ℕ, ◌+◌, ◌≤◌, cond, List, [], map, length, take, drop, nat_le}
 use Rattle.paths.specs.declared.Part.{Part}
 use Rattle.paths.specs.declared.Parts.{Parts}

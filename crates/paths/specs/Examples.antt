@@ -1,7 +1,7 @@
 -- Worked examples of paths, with those of names.
 --
---   Examples        the table: each row is a fact about the definitions that the contracts use
---   slash_a n        a path of n names, each of them `a`
+--   Examples   the table: each row is a fact about the definitions that the contracts use
+--   slash_a n  a path of n names, each of them `a`
 use Rattle.std.specs.Prelude.{◌≡◌, ℕ, zero, suc, List, [], ◌∷◌, Some, None}
 use Rattle.names.specs.Examples.{Examples as NameExamples}
 use Rattle.paths.specs.declared.PathError.TheVariants.{AboveRoot, TooManyNames}

@@ -4,15 +4,15 @@
 --   cut at us        the pieces between separators, the first of them at place `at`
 --   nothing us       an empty piece or `.`: it is dropped
 --   parent us        `..`: it takes away the name before it
---   kind_of us        which of the two a piece is, or a name
+--   kind_of us       which of the two a piece is, or a name
 --   Walk             what a list of pieces does from a storage on: so many names taken away, then these names
 --   walk ps          that of the pieces ps
 --   deepest d ps     the most names held at any moment, from d names on
---   held_after ps n   how many names are held after the first n pieces
+--   held_after ps n  how many names are held after the first n pieces
 --   Most ps m        m is the most names held at any moment
---   path_refusal us   why a path is refused: bad UTF-16 anywhere, else above the root anywhere, else over 64 names
+--   path_refusal us  why a path is refused: bad UTF-16 anywhere, else above the root anywhere, else over 64 names
 --   resolved us      the names that a path leaves
---   path_number e     the number of a refusal
+--   path_number e    the number of a refusal
 --   AllWellFormed    each of the pieces is UTF-16
 use Rattle.std.specs.Prelude.{◌≡◌, ℕ, zero, suc, ◌+◌, ◌-◌, ◌≤◌, max, Bool, true, false, cond, ◌&&◌, List, [], ◌∷◌, length, take, Some, None, Option, ◌==◌, nat_lt}
 use Rattle.paths.specs.declared.PathError.{PathError}

@@ -1,6 +1,6 @@
 -- How far it is to the next separator.
 --
---   until_separator us    how many units of us stand before the first `/`, or all of them
+--   until_separator us  how many units of us stand before the first `/`, or all of them
 use Rattle.std.specs.Prelude.{ℕ, suc, cond, List, [], ◌∷◌, ◌==◌}
 
 abbrev pub until_separator : List ℕ → ℕ

@@ -1,10 +1,10 @@
 -- A path on the way: what is known of the names met so far.
 --
---   entered t pl            one name more: its place is kept while there is room for 64
---   shortened t             one name less
---   Holds us stack t        the places of a trail are those of the names in stack
---   Onward us all rest t    of the pieces `all` of a path, those before `rest` were followed: what the whole path does
---                           is what rest does from the names of the trail on
+--   entered t pl          one name more: its place is kept while there is room for 64
+--   shortened t           one name less
+--   Holds us stack t      the places of a trail are those of the names in stack
+--   Onward us all rest t  of the pieces `all` of a path, those before `rest` were followed: what the whole path does
+--                         is what rest does from the names of the trail on
 use Rattle.std.specs.Prelude.{◌≡◌, ℕ, ◌+◌, ◌-◌, ◌<◌, ◌≤◌, max, true, false, cond, List, ◌++◌, map, length, take, nat_lt, slice_set}
 use Rattle.paths.specs.declared.Place.{Place}
 use Rattle.paths.specs.declared.trail.Trail.{Trail}

@@ -7,9 +7,9 @@
 --   Nameable us        units that may be the name of a storage or a stream
 --   Fit v e            an entry that fits a record and is allowed
 --   Stands bs v e      an entry stands in a record: each field at its offset, as it is
---   title_in bs         the units of a record's name, the root's given
---   zero_if b n xs      n zeros where b holds, else xs
---   length_bytes v bs   the eight bytes of what counts of a length
+--   title_in bs        the units of a record's name, the root's given
+--   zero_if b n xs     n zeros where b holds, else xs
+--   length_bytes v bs  the eight bytes of what counts of a length
 --   canonical bs v     the bytes of a record put in order: nothing after the name, zeros where the type has no such field
 use Rattle.std.specs.Prelude.{◌≡◌, ℕ, ◌+◌, ◌*◌, ◌%◌, ◌^◌, ◌<◌, ◌≤◌, Bool, true, false, cond, List, [], ◌∷◌, ◌++◌, length, replicate, slice_index}
 use Rattle.names.specs.Names.{spelled, name_of, allowed}

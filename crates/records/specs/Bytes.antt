@@ -1,12 +1,12 @@
 -- Bytes: how numbers and units stand in a record, the low byte first.
 --
---   number bs             the number that bytes spell
---   bytes_of w x           the w bytes that spell x
---   part at n bs          n bytes from an offset on
---   byte_at bs at          the byte at an offset
---   u16_at, u32_at, u64_at   the number of 2, 4, 8 bytes at an offset
---   units_of bs            the units that bytes spell, two bytes each
---   unit_bytes us          the bytes that spell units
+--   number bs               the number that bytes spell
+--   bytes_of w x            the w bytes that spell x
+--   part at n bs            n bytes from an offset on
+--   byte_at bs at           the byte at an offset
+--   u16_at, u32_at, u64_at  the number of 2, 4, 8 bytes at an offset
+--   units_of bs             the units that bytes spell, two bytes each
+--   unit_bytes us           the bytes that spell units
 use Rattle.std.specs.Prelude.{ℕ, zero, suc, ◌+◌, ◌*◌, ◌/◌, ◌%◌, List, [], ◌∷◌, ◌++◌, take, drop, slice_index}
 
 abbrev pub number : List ℕ → ℕ

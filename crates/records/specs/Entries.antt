@@ -1,9 +1,9 @@
 -- Entries as they are made, and with a link changed.
 --
---   fresh n k t     a new entry: black, without links, CLSID or state bits, with the time t as both of its times
---   blank           the entry of a record that is free: nothing but empty links
+--   fresh n k t      a new entry: black, without links, CLSID or state bits, with the time t as both of its times
+--   blank            the entry of a record that is free: nothing but empty links
 --   new_root         the root of an empty directory
---   linked e l x    the entry e with x for its link l
+--   linked e l x     the entry e with x for its link l
 --   link_of l k x y  x where l and k are one link, else y
 use Rattle.std.specs.Prelude.{ℕ, cond, []}
 use Rattle.names.specs.declared.name.Name.{Name}

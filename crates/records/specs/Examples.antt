@@ -1,9 +1,9 @@
 -- Rows worked out: those of names, what a name length gives, and the record of a free entry.
 --
---   freed n        the record of a free entry, with n for its name length
---   Gives l n      every record with the name length l that is read, but for a root's, gives a name of n units; and the
---                  freed record with that length is read so
---   Meets l n      every record with the name length l is refused with the number n
+--   freed n    the record of a free entry, with n for its name length
+--   Gives l n  every record with the name length l that is read, but for a root's, gives a name of n units; and the
+--              freed record with that length is read so
+--   Meets l n  every record with the name length l is refused with the number n
 use Rattle.std.specs.Prelude.{◌≡◌, ℕ, false, List, ◌∷◌, ◌++◌, length, replicate, Ok, Err}
 use Rattle.names.specs.Examples.{Examples as NameExamples}
 use Rattle.names.specs.Names.{spelled}

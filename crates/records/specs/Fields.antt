@@ -1,17 +1,17 @@
 -- The fields of a record: 128 bytes, each field at its offset.
 --
---   name_length bs     the name length in bytes: the name's units and the null after them, two bytes each
---   name_units bs      how many units the name has, before its null; a length of 0 stands for none too
---   name_in bs         the units of the name
---   end_in bs          the unit after the name
---   kind_in bs         the type that stands there; unallocated where the byte stands for none
---   color_in bs        the colour that stands there; red where the byte stands for none
---   link_in bs l       a link
---   clsid_in bs        the 16 bytes of the CLSID
---   state_in bs        the state bits
---   time_in bs t       a time
---   start_in bs        the start sector
---   length_in bs v     what counts of the stream's length
+--   name_length bs  the name length in bytes: the name's units and the null after them, two bytes each
+--   name_units bs   how many units the name has, before its null; a length of 0 stands for none too
+--   name_in bs      the units of the name
+--   end_in bs       the unit after the name
+--   kind_in bs      the type that stands there; unallocated where the byte stands for none
+--   color_in bs     the colour that stands there; red where the byte stands for none
+--   link_in bs l    a link
+--   clsid_in bs     the 16 bytes of the CLSID
+--   state_in bs     the state bits
+--   time_in bs t    a time
+--   start_in bs     the start sector
+--   length_in bs v  what counts of the stream's length
 use Rattle.std.specs.Prelude.{ℕ, ◌-◌, ◌*◌, ◌/◌, cond, List, ◌==◌}
 use Rattle.fields.specs.declared.objtype.ObjType.{ObjType}
 use Rattle.fields.specs.declared.objtype.ObjType.TheVariants.{Unallocated, Storage, Stream, Root}

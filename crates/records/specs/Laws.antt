@@ -1,14 +1,14 @@
 -- What holds of every record and every entry.
 --
---   StrictIsExact      Strict reads a record exactly where an allowed entry stands in it, and gives that entry
---   WrittenReadsBack   an entry is written to 128 bytes; and where it is allowed, Strict reads those as itself
---   StrictInPermissive     what Strict reads, Permissive reads to the same entry
---   RewrittenIsCanonical   what is read in either mode and written again is the record put in order, and Strict reads
---                            that to the same entry
---   RecordsTell         entries whose records are equal are equal
---   RelinkedInPlace    the record of an entry with one link changed is its record with those four bytes changed
---   MadeAreAllowed     entries as they are made are allowed: free ones, the root of an empty directory, a storage
---                        with any time, and a stream with none
+--   StrictIsExact         Strict reads a record exactly where an allowed entry stands in it, and gives that entry
+--   WrittenReadsBack      an entry is written to 128 bytes; and where it is allowed, Strict reads those as itself
+--   StrictInPermissive    what Strict reads, Permissive reads to the same entry
+--   RewrittenIsCanonical  what is read in either mode and written again is the record put in order, and Strict reads
+--                         that to the same entry
+--   RecordsTell           entries whose records are equal are equal
+--   RelinkedInPlace       the record of an entry with one link changed is its record with those four bytes changed
+--   MadeAreAllowed        entries as they are made are allowed: free ones, the root of an empty directory, a storage
+--                         with any time, and a stream with none
 use Rattle.std.specs.Prelude.{◌≡◌, ℕ, ◌+◌, ◌^◌, ◌<◌, List, ◌++◌, take, drop, Ok}
 use Rattle.names.specs.Names.{name_of}
 use Rattle.fields.specs.declared.objtype.ObjType.TheVariants.{Storage, Stream}

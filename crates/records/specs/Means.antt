@@ -1,8 +1,8 @@
 -- What an accepted record means, field by field.
 --
---   Means bs v e     the entry e is what the record bs means: each field of e stands in bs at its offset, but for what
---                    the type gives (a root's name) or takes away (a stream's CLSID and times, a storage's start and
---                    length), and version 3 has the low 32 bits of the length
+--   Means bs v e  the entry e is what the record bs means: each field of e stands in bs at its offset, but for what
+--                 the type gives (a root's name) or takes away (a stream's CLSID and times, a storage's start and
+--                 length), and version 3 has the low 32 bits of the length
 use Rattle.std.specs.Prelude.{◌≡◌, ℕ, cond, List}
 use Rattle.names.specs.Names.{name_of}
 use Rattle.fields.specs.declared.version.Version.{Version}

@@ -1,24 +1,24 @@
 -- The rules of a record, in the order in which they are looked at, and what a record means that keeps them.
 --
---   Rule, rule f b      a flaw, and whether the record has it
---   root_units           the root's name
---   nil                 the CLSID that stands for none
---   nowhere             the link that stands for none
---   stray x             x is neither a number that a record can have nor the link that stands for none
---   name_rules bs m      the rules of the name by itself
---   type_rules bs        the rule of the type's byte
---   title_rules k us m   the rules of a name us of an entry of type k
---   color_rules bs       the rule of the colour's byte
---   link_rules bs k      the rules of the three links
---   stamp_rules bs k m   the rules of CLSID and times
---   place_rules bs k v m   the rules of start sector and length
---   rules bs v m        all of them
---   first rs            the first flaw that the record has
---   judge rs x          x where the record has no flaw, else the first flaw
---   titled k n          the name of an entry of type k that is named n in its record: the root's is given
---   meaning bs v        the entry that a record means, in either mode
---   reads bs v m        what reading a record gives
---   about n r           the same, with the record's number put to a flaw
+--   Rule, rule f b        a flaw, and whether the record has it
+--   root_units            the root's name
+--   nil                   the CLSID that stands for none
+--   nowhere               the link that stands for none
+--   stray x               x is neither a number that a record can have nor the link that stands for none
+--   name_rules bs m       the rules of the name by itself
+--   type_rules bs         the rule of the type's byte
+--   title_rules k us m    the rules of a name us of an entry of type k
+--   color_rules bs        the rule of the colour's byte
+--   link_rules bs k       the rules of the three links
+--   stamp_rules bs k m    the rules of CLSID and times
+--   place_rules bs k v m  the rules of start sector and length
+--   rules bs v m          all of them
+--   first rs              the first flaw that the record has
+--   judge rs x            x where the record has no flaw, else the first flaw
+--   titled k n            the name of an entry of type k that is named n in its record: the root's is given
+--   meaning bs v          the entry that a record means, in either mode
+--   reads bs v m          what reading a record gives
+--   about n r             the same, with the record's number put to a flaw
 use Rattle.std.specs.Prelude.{ℕ, ◌%◌, Bool, cond, not, ◌&&◌, ◌||◌, List, [], ◌∷◌, ◌++◌, replicate, Some, None, Ok, Err, Option, Result, ◌==◌, nat_lt}
 use Rattle.std.specs.Str.{bytes_eq}
 use Rattle.names.specs.declared.name.Name.{Name}

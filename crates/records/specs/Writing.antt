@@ -1,11 +1,11 @@
 -- The record of an entry: each of its 128 bytes.
 --
---   name_bytes us      the name field: the name's units, then nulls up to 32 units
---   head_bytes e       name length in bytes, with the null; type; colour
---   link_bytes e       left, right, child
---   stamp_bytes e      CLSID, state bits, creation time, modified time
---   place_bytes e      start sector, length
---   written e         the whole record
+--   name_bytes us  the name field: the name's units, then nulls up to 32 units
+--   head_bytes e   name length in bytes, with the null; type; colour
+--   link_bytes e   left, right, child
+--   stamp_bytes e  CLSID, state bits, creation time, modified time
+--   place_bytes e  start sector, length
+--   written e      the whole record
 use Rattle.std.specs.Prelude.{ℕ, ◌+◌, ◌*◌, List, [], ◌∷◌, ◌++◌, length}
 use Rattle.names.specs.Names.{spelled}
 use Rattle.names.specs.Padding.{padded}

@@ -1,11 +1,11 @@
 -- What a store of sectors is made of, and why it cannot be made.
 --
---   FirstOutside v n ss i    the first place of the list ss whose sector does not lie in n bytes
---   Surveyed v n ss          no sector stands twice, and all lie in n bytes
---   Unfitting v n ss k u     why not, given k cells: too few of them, else the first sector that stands again, else the first
---                            that lies outside
---   Claimed v n ss k u       what a store is made of whose first u sectors are in use
---   Unclaimed v n ss k u e   why it is not
+--   FirstOutside v n ss i   the first place of the list ss whose sector does not lie in n bytes
+--   Surveyed v n ss         no sector stands twice, and all lie in n bytes
+--   Unfitting v n ss k u    why not, given k cells: too few of them, else the first sector that stands again, else the first
+--                           that lies outside
+--   Claimed v n ss k u      what a store is made of whose first u sectors are in use
+--   Unclaimed v n ss k u e  why it is not
 use Rattle.std.specs.Prelude.{◌≡◌, ℕ, ◌<◌, ◌≤◌, true, false, ◌⊎◌, List, length}
 use Rattle.fields.specs.declared.version.Version.{Version}
 use Rattle.cells.specs.Repeats.{Distinct, FirstRepeat}

@@ -1,17 +1,17 @@
 -- Records in the sectors of a compound file.
 --
---   start v ss i        where the sector at place i of the list ss begins
---   place v ss k        where the record k begins: in the sector k / (records per sector) of the list
---   Inside v n ss i     the sector at place i of the list lies in n bytes
---   room_for v ss        how many of the listed sectors can be used: every record in them has a number
---   has_count v n        whether a file of n bytes keeps a count: version 4, if its header has the place for it
---   count_fits v n       whether the header has the place for a count, if the version wants one
---   count_of v bs        the count, where one is kept
---   sectored v bs ss u r   what the store means of which u sectors are in use and r can be
---   covered v ss i      the place i lies in a listed sector, or in the count
+--   start v ss i             where the sector at place i of the list ss begins
+--   place v ss k             where the record k begins: in the sector k / (records per sector) of the list
+--   Inside v n ss i          the sector at place i of the list lies in n bytes
+--   room_for v ss            how many of the listed sectors can be used: every record in them has a number
+--   has_count v n            whether a file of n bytes keeps a count: version 4, if its header has the place for it
+--   count_fits v n           whether the header has the place for a count, if the version wants one
+--   count_of v bs            the count, where one is kept
+--   sectored v bs ss u r     what the store means of which u sectors are in use and r can be
+--   covered v ss i           the place i lies in a listed sector, or in the count
 --   sector_beside l v bs ss  what lies beside it: the lender, the list, and the bytes in no listed sector and not in the count
---   Laid v n ss u r     what holds of such a store in n bytes: no sector in use stands twice or outside the bytes
---   filled bs a n       bs with n freed records end to end from the place a on
+--   Laid v n ss u r          what holds of such a store in n bytes: no sector in use stands twice or outside the bytes
+--   filled bs a n            bs with n freed records end to end from the place a on
 use Rattle.std.specs.Prelude.{ℕ, zero, suc, ◌+◌, ◌-◌, ◌*◌, ◌/◌, ◌%◌, ◌<◌, ◌≤◌, min, Bool, true, false, cond, List, [], ◌∷◌, length, Some, None, Option, ◌≢◌, nat_le, nat_lt, slice_index}
 use Rattle.std.proofs.Math.Seq.{paste}
 use Rattle.fields.specs.declared.version.Version.{Version}

@@ -1,9 +1,9 @@
 -- The faults of a store that is made to fail.
 --
---   TripsOr p f               f is a fault of being made to fail, or one of p
---   Counts p due n o r w w'   a call with the answer r, which is a write where due holds, before which w writes still went
---                             through, and w' after it: it trips exactly where none does, and is counted; where one does,
---                             its fault is one of p, from below
+--   TripsOr p f              f is a fault of being made to fail, or one of p
+--   Counts p due n o r w w'  a call with the answer r, which is a write where due holds, before which w writes still went
+--                            through, and w' after it: it trips exactly where none does, and is counted; where one does,
+--                            its fault is one of p, from below
 use Rattle.std.specs.Prelude.{◌≡◌, ℕ, ◌-◌, ◌<◌, ◌⊎◌, IfErr, Err, Result}
 use Rattle.stores.specs.declared.fault.Fault.{Fault}
 use Rattle.stores.specs.declared.fault.Layer.TheVariants.{Trip}
