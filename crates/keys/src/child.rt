@@ -1,4 +1,4 @@
-ghost use Rattle.std.specs.Prelude.{◌≡◌, ◌&&◌, Decides, ◌==◌, nat_eq, refl};
+ghost use Rattle.std.specs.Prelude.{◌≡◌, ◌&&◌, Decides, ◌==◌, refl};
 ghost use Rattle.std.proofs.Common.{sym, ◌∙◌};
 ghost use Rattle.names.specs.Keys.{keyed};
 ghost use Rattle.keys.specs.Keys.{seed, mixed, same_child, child_hash, child_of};
@@ -25,7 +25,7 @@ fn folded_codes(name: &NameKey) -> &[u32]
 
 /// Whether two keys have one storage and one unit count.
 fn same_head(left: &ChildKey, right: &ChildKey) -> bool
-    ensures { result ≡ (left.now.parent == right.now.parent && nat_eq left.now.name.unit_count right.now.name.unit_count) }
+    ensures { result ≡ ((left.now.parent == right.now.parent) && (left.now.name.unit_count == right.now.name.unit_count)) }
 {
     left.parent == right.parent && left.name.unit_count == right.name.unit_count
 }

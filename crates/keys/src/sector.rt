@@ -1,5 +1,6 @@
-ghost use Rattle.keys.specs.Keys.{same_sector, sector_hash};
-ghost use Rattle.std.proofs.Common.{rules};
+ghost use Rattle.std.specs.Prelude.{refl};
+ghost use Rattle.std.proofs.Common.{sym, ap, ◌∙◌, eq-eqb, eqb-true};
+ghost use Rattle.keys.specs.Keys.{seed, mixed, same_sector, sector_hash};
 
 use crate::hashing::{SEED, mix};
 use crate::key::Key;
@@ -13,13 +14,13 @@ impl Key for SectorNumber {
 
     ghost hashed = { λ x. sector_hash x };
 
-    ghost reflects = { Prim.search rules };
+    ghost reflects = { λ x. eq-eqb x.0 x.0 refl };
 
-    ghost turns = { Prim.search rules };
+    ghost turns = { λ x y h. eq-eqb y.0 x.0 (sym (eqb-true x.0 y.0 h)) };
 
-    ghost joins = { Prim.search rules };
+    ghost joins = { λ x y z h k. eq-eqb x.0 z.0 (eqb-true x.0 y.0 h ∙ eqb-true y.0 z.0 k) };
 
-    ghost agrees = { Prim.search rules };
+    ghost agrees = { λ x y h. ap (mixed seed) (eqb-true x.0 y.0 h) };
 
     fn is_same(&self, other: &SectorNumber) -> bool {
         self.0 == other.0

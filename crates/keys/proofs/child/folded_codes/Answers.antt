@@ -1,5 +1,5 @@
 use Rattle.std.proofs.Common.{min, ap, ◌∙◌, rules}
-use Rattle.keys.specs.Alike.{take_capped}
+use Rattle.keys.proofs.Alike.{take_capped}
 use Rattle.keys.proofs.child.folded_codes.Goals as goal
 
 pub returns : goal.returns

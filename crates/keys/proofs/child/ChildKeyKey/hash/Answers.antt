@@ -1,5 +1,5 @@
 use Rattle.keys.specs.Keys.{child_hash}
-use Rattle.keys.specs.Alike.{hash_more, hash_made}
+use Rattle.keys.proofs.Alike.{hash_more, hash_made}
 use Rattle.keys.proofs.child.ChildKeyKey.hash.Goals as goal
 
 pub loop-code-preserved : goal.loop-code-preserved

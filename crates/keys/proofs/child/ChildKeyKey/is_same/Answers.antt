@@ -3,7 +3,7 @@ use Rattle.std.proofs.lemmas.Slice.Eq.{slice_eq-Decides}
 use Rattle.std.proofs.lemmas.Bool.{and_from, and_parts, both_ways, eq-eqb, eqb-true}
 use Rattle.names.specs.Keys.{keyed}
 use Rattle.keys.specs.Keys.{Child}
-use Rattle.keys.specs.Alike.{told_same, told_other}
+use Rattle.keys.proofs.Alike.{told_same, told_other}
 use Rattle.keys.proofs.child.ChildKeyKey.is_same.Goals as goal
 use Rattle.std.proofs.lemmas.Bool.Decides.{Decides-eqb}
 
