@@ -15,7 +15,7 @@ import sys
 WORD = r"[A-Za-z0-9_'ℕℤ-]"
 TOP = re.compile(r"^(?:abbrev |unfoldable )?(?:pub )?(data |record |ruleset )?([A-Za-z]" + WORD + r"*)(?=[ :({])")
 MEMBER = re.compile(r"^  (?:pub )?([A-Za-z]" + WORD + r"*(?: [A-Za-z]" + WORD + r"*)*) : ")
-MADE = re.compile(r"^(returns|loop|overflow|bounds|offset|nonzero|slice_bounds|invariant|decreases|ghosts?|drop|prove|invariant_of)\b|-(requires|init|preserved|smaller)\b")
+MADE = re.compile(r"^(returns|loop|overflow|bounds|offset|nonzero|slice|invariant|decreases|ghosts?|drop|prove)(?![A-Za-z0-9])|-(requires|init|preserved|smaller)\b")
 NOT_NAMES = ("use", "mod", "pub", "unfolding", "infixl", "infixr", "infix", "mutual", "where", "open", "let", "in")
 
 # Words of the library on which lemmas speak.

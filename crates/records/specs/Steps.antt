@@ -1,6 +1,6 @@
 -- The reader's way through the rules, for the contracts of its own parts: each part is judged once those before it are.
 --
---   and_then r f                                              the second part, where the first was read
+--   and_then r f                                                  the second part, where the first was read
 --   count_step, spell_step, link_step, child_step, clsid_step,
 --   time_step, start_step, length_step                            single fields
 --   name_steps, head_steps, link_steps, stamp_steps, place_steps  the parts of a record
