@@ -8,6 +8,7 @@ use fields::consts::DIR_ENTRY_LEN;
 use records::direntry::DirEntry;
 
 /// The record of a free entry, which growing adds.
+#[tactic(auto, unfolding(crate::specs::Meaning::freed))]
 pub fn freed_record() -> [u8; DIR_ENTRY_LEN]
     ensures { result ≡ freed }
 {
