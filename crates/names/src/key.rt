@@ -1,10 +1,12 @@
 //! A name's key: its unit count and its folded code points.
-ghost use Rattle.std.specs.Prelude.{◌≡◌, ◌≤◌, length};
+ghost use Rattle.std.specs.Prelude.{◌≡◌, ◌≤◌, length, Decides};
+ghost use Rattle.std.proofs.Common.{rules};
+ghost use Rattle.std.specs.Cmp.Rules.{comparing};
 ghost use Rattle.names.specs.Names.{spelled};
-ghost use Rattle.names.specs.Keys.{key_of, in_place};
+ghost use Rattle.names.specs.Keys.{key_of, keyed, in_place, same_key};
 
 use crate::folding::Folding;
-use crate::name::Name;
+use crate::name::{MAX_NAME_LEN, Name};
 use crate::utf16::first_code;
 
 /// A name's key, in place. Two names are the same name of a directory exactly when their keys are equal.
@@ -13,6 +15,34 @@ pub struct NameKey {
     pub unit_count: u8,
     pub code_count: u8,
     pub codes: [u32; 31],
+}
+
+impl NameKey {
+    /// The folded code points of the name. What stands in the array behind them says nothing.
+    pub fn codes(&self) -> &[u32]
+        ensures { result.now ≡ (keyed self.now).folded }
+    {
+        let count = usize::from(self.code_count).min(MAX_NAME_LEN);
+        &self.codes[..count]
+    }
+}
+
+// Not derived, since what stands in the array behind the code points that count says nothing.
+impl PartialEq for NameKey {
+    ghost eq = { same_key };
+
+    ghost laws = { Prim.search (comparing, rules) };
+
+    fn eq(&self, other: &NameKey) -> bool
+        ensures tells { result ≡ same_key self.now other.now }
+        ensures means { Decides result (keyed self.now ≡ keyed other.now) }
+    {
+        self.unit_count == other.unit_count && self.codes() == other.codes()
+    }
+}
+
+impl Eq for NameKey {
+    ghost laws = { Prim.search (comparing, rules) };
 }
 
 /// The key under which a name is indexed.
