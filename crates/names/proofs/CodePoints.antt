@@ -1,6 +1,10 @@
 -- How the code points of a list of units follow from those of what is left of it.
-use Rattle.std.proofs.Common.{◌≡◌, ℕ, ◌-◌, ◌<◌, ◌≤◌, true, false, ◌&&◌, ◌⊎◌, List, [], ◌∷◌, length, get_or, take, drop, sym, ap, inl, inr, arith}
+use Rattle.std.proofs.Common.{◌≡◌, ℕ, ◌-◌, ◌<◌, ◌≤◌, Bool, true, false, cond, ◌&&◌, ◌⊎◌, List, [], ◌∷◌, length, get_or, take, drop, sym, ap, inl, inr, arith}
 use Rattle.std.proofs.lemmas.List.{take_rest, length-drop}
+use Rattle.std.specs.Iterator.{YieldsFirst}
+use Rattle.std.proofs.lemmas.Iterator.{YieldsList}
+use Rattle.std.proofs.lemmas.Iterator.Consumers.{YieldsList-from_first}
+use Rattle.names.specs.declared.utf16.CodePoints.{CodePoints}
 use Rattle.names.specs.Units.{codes, high, low, joined}
 
 -- a pair at the front
@@ -19,3 +23,17 @@ codes_of_single (u ∷ v ∷ us) c h (inr p) e = rw (take_rest (u ∷ v ∷ us) 
 -- what is left is shorter
 pub rest_shorter : (us : List ℕ) (n : ℕ) → 1 ≤ n → n ≤ length us → length (take (length us - n) (drop n us)) < length us
 rest_shorter us n h l = rw (take_rest us n) (rw (length-drop n us) (omega arith))
+
+-- there are no more code points than units
+pub codes_few : (us : List ℕ) → length (codes us) ≤ length us
+codes_few [] = omega arith
+codes_few (u ∷ []) = omega arith
+codes_few (u ∷ v ∷ us) = by_pair (high u && low v) (codes_few us) (codes_few (v ∷ us))
+  where
+    by_pair : (b : Bool) → length (codes us) ≤ length us → length (codes (v ∷ us)) ≤ length (v ∷ us) → length (cond b (joined u v ∷ codes us) (u ∷ codes (v ∷ us))) ≤ length (u ∷ v ∷ us)
+    by_pair true h k = omega arith
+    by_pair false h k = omega arith
+
+-- the iterator gives the code points
+pub gives_codes : (us : List ℕ) {s : CodePoints} → s.units.now ≡ us → YieldsList (YieldsFirst (λ (t : CodePoints). codes t.units.now)) (λ c. c) s (codes us)
+gives_codes us e = YieldsList-from_first (λ c. c) (λ (t : CodePoints). codes t.units.now) (codes us) (ap codes e)

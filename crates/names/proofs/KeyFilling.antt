@@ -1,39 +1,28 @@
 -- A key that is filled in code point by code point.
-use Rattle.std.proofs.Common.{◌≡◌, ℕ, ◌+◌, ◌<◌, ◌≤◌, List, [], ◌∷◌, ◌++◌, map, length, set, sym, refl, ap, ◌∙◌, append_assoc, arith}
-use Rattle.std.proofs.lemmas.List.{length_push, append-nil}
+use Rattle.std.proofs.Common.{◌≡◌, ℕ, ◌+◌, ◌<◌, ◌≤◌, List, [], ◌∷◌, ◌++◌, length, set, sym, ap, ◌∙◌, length-append, arith}
+use Rattle.std.proofs.lemmas.List.{length_push}
 use Rattle.names.specs.declared.key.NameKey.{NameKey}
-use Rattle.names.specs.Padding.{padded}
+use Rattle.names.specs.Keys.{in_place}
 use Rattle.names.specs.Units.{codes}
-use Rattle.names.specs.Keys.{key_of, in_place}
+use Rattle.names.proofs.CodePoints.{codes_few}
 use Rattle.names.proofs.Filling.{padded_more}
 
--- of the units us, those before rest are folded into the first places of the array
-pub record Filled (fold : ℕ → ℕ) (us array rest : List ℕ) (count : ℕ) : Type 0 where
-  pub done : List ℕ
-  pub counted : length done ≡ count
-  pub holds : array ≡ padded 31 done
-  pub whole : done ++ map fold (codes rest) ≡ map fold (codes us)
-  pub room : count + length rest ≤ length us
+-- the key of n units whose first code points are xs
+abbrev pub so_far : ℕ → List ℕ → NameKey
+so_far n xs = in_place (record { units = n; folded = xs })
 
-module _ (fold : ℕ → ℕ) (us array rest : List ℕ) where
-  pub filled_none : array ≡ padded 31 [] → Filled fold us array us 0
-  filled_none e = record { done = []; counted = refl; holds = e; whole = refl; room = omega arith }
+-- one code point more
+pub one_more : (n : ℕ) (k : NameKey) (xs : List ℕ) (x : ℕ) → length xs < 31 → k ≡ so_far n xs → ◌≡◌ {A = NameKey} (record k { code_count = k.code_count + 1; codes = set k.codes k.code_count x }) (so_far n (xs ++ x ∷ []))
+one_more n k xs x h e =
+    let count : k.code_count ≡ length xs = ap (λ (j : NameKey). j.code_count) e in
+    let units : k.unit_count ≡ n = ap (λ (j : NameKey). j.unit_count) e in
+    let more : k.code_count + 1 ≡ length (xs ++ x ∷ []) = ap (λ m. m + 1) count ∙ sym (length_push xs x) in
+    let codes = padded_more 31 xs k.codes k.code_count x (sym count) (omega arith) (ap (λ (j : NameKey). j.codes) e) in
+    λ i. record { unit_count = units i; code_count = more i; codes = codes i }
 
-  pub filled_more : (count c x : ℕ) (more : List ℕ) → length us ≤ 31 → Filled fold us array rest count → codes rest ≡ c ∷ codes more → length more < length rest → x ≡ fold c → Filled fold us (set array count x) more (count + 1)
-  filled_more count c x more few f e s v =
-      let r = f.room in
-      let n = f.counted in
-      record {
-        done = f.done ++ x ∷ [];
-        counted = length_push f.done x ∙ ap (λ k. k + 1) n;
-        holds = padded_more 31 f.done array count x n (omega arith) f.holds;
-        whole = rw append_assoc (rw v (sym (ap (λ cs. f.done ++ map fold cs) e) ∙ f.whole));
-        room = omega arith;
-      }
-
-  pub filled_all : (count : ℕ) → Filled fold us array rest count → rest ≡ [] → ◌≡◌ {A = NameKey} (record { unit_count = length us; code_count = count; codes = array }) (in_place (key_of fold us))
-  filled_all count f e =
-      let w : f.done ≡ map fold (codes us) = sym (append-nil f.done) ∙ sym (ap (λ r. f.done ++ map fold (codes r)) e) ∙ f.whole in
-      let n : count ≡ length (map fold (codes us)) = sym f.counted ∙ ap length w in
-      let h : array ≡ padded 31 (map fold (codes us)) = f.holds ∙ ap (padded 31) w in
-      λ i. record { unit_count = length us; code_count = n i; codes = h i }
+-- where a code point is left, a place is left
+pub room : (us before rest : List ℕ) (c : ℕ) (more : List ℕ) → length us ≤ 31 → before ++ rest ≡ codes us → rest ≡ c ∷ more → length before < 31
+room us before rest c more few whole e =
+    let all = ap length whole in
+    let next = ap length e in
+    omega (arith, codes_few us, length-append before rest)

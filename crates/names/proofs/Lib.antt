@@ -1,6 +1,5 @@
 pub mod CodePoints
 pub mod Filling
-pub mod FoldedOrder
 pub mod KeyFilling
 pub mod Scanning
 pub mod Spelling

@@ -1,25 +1,31 @@
 -- What a scan from the front knows: the answer for the whole list is the answer for what is left.
-use Rattle.std.proofs.Common.{◌≡◌, ℕ, ◌+◌, ◌<◌, ◌≤◌, true, false, cond, not, ◌&&◌, eqb, List, length, get_or, drop, sym, refl, ap, ◌∙◌}
+use Rattle.std.proofs.Common.{◌≡◌, ℕ, ◌+◌, ◌<◌, ◌≤◌, Bool, true, false, cond, not, ◌&&◌, Bor, eqb, List, [], ◌∷◌, length, get_or, drop, sym, refl, ap, ◌∙◌}
 use Rattle.std.proofs.lemmas.List.{at_drop_more, at_drop_all}
-use Rattle.std.proofs.lemmas.Bool.{eq-eqb, ne_eqb}
+use Rattle.std.specs.List.{find}
+use Rattle.std.specs.Prelude.{Option, Some, None, MatchOption}
+use Rattle.std.specs.Option.{option_map}
 use Rattle.names.specs.Foldings.{paired}
 use Rattle.names.specs.Names.{forbidden, allowed}
 
-module _ (ps : List (ℕ × ℕ)) (c i : ℕ) where
-  paired_next : i < length ps → paired (drop i ps) c ≡ cond (eqb (get_or ps i (0, 0)).0 c) (get_or ps i (0, 0)).1 (paired (drop (i + 1) ps) c)
-  paired_next h = at_drop_more (λ r. paired r c) ps i (0, 0) h
+-- the second of the pair that was found, and c itself where none was
+pub paired_found : (ps : List (ℕ × ℕ)) (c : ℕ) (r : Option (Bor (ℕ × ℕ))) (v : ℕ) (P : Bor (ℕ × ℕ) → Type 0) → option_map (λ p. p.now) r ≡ find (λ p. eqb p.0 c) ps → MatchOption r (v ≡ c) P → ((p : Bor (ℕ × ℕ)) → P p → v ≡ p.now.1) → v ≡ paired ps c
+paired_found ps c r v P e m k = by_result r e m ∙ walked ps
+  where
+    second : Option (ℕ × ℕ) → ℕ
+    second None = c
+    second (Some p) = p.1
 
-  -- the pair is here
-  pub paired_here : i < length ps → paired (drop i ps) c ≡ paired ps c → (get_or ps i (0, 0)).0 ≡ c → (get_or ps i (0, 0)).1 ≡ paired ps c
-  paired_here h inv e = sym (sym inv ∙ paired_next h ∙ rw (eq-eqb (get_or ps i (0, 0)).0 c e) refl)
+    by_result : (r : Option (Bor (ℕ × ℕ))) → option_map (λ p. p.now) r ≡ find (λ p. eqb p.0 c) ps → MatchOption r (v ≡ c) P → v ≡ second (find (λ p. eqb p.0 c) ps)
+    by_result None e m = m ∙ ap second e
+    by_result (Some p) e m = k p m ∙ ap second e
 
-  -- the pair is another code's
-  pub paired_later : i < length ps → paired (drop i ps) c ≡ paired ps c → ((get_or ps i (0, 0)).0 ≡ c → ⊥) → paired (drop (i + 1) ps) c ≡ paired ps c
-  paired_later h inv n = sym (sym inv ∙ paired_next h ∙ rw (ne_eqb (get_or ps i (0, 0)).0 c n) refl)
-
-  -- no pair is left
-  pub paired_none : length ps ≤ i → paired (drop i ps) c ≡ paired ps c → c ≡ paired ps c
-  paired_none h inv = sym (at_drop_all (λ r. paired r c) ps i h) ∙ inv
+    walked : (qs : List (ℕ × ℕ)) → second (find (λ p. eqb p.0 c) qs) ≡ paired qs c
+    walked [] = refl
+    walked (q ∷ qs) = by_test (eqb q.0 c) (walked qs)
+      where
+        by_test : (b : Bool) → second (find (λ p. eqb p.0 c) qs) ≡ paired qs c → second (cond b (Some q) (find (λ p. eqb p.0 c) qs)) ≡ cond b q.1 (paired qs c)
+        by_test true w = refl
+        by_test false w = w
 
 module _ (us : List ℕ) (i : ℕ) where
   allowed_next : i < length us → allowed (drop i us) ≡ (not (forbidden (get_or us i 0)) && allowed (drop (i + 1) us))

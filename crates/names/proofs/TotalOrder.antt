@@ -1,40 +1,17 @@
 -- The order of keys is total: it decides its relation, and is turned round, transitive and equal only at equal keys.
-use Rattle.std.proofs.Common.{◌≡◌, ℕ, ◌<◌, ◌⊎◌, List, [], ◌∷◌, Ordering, Less, Equal, Greater, sym, refl, ap, ◌∙◌, subst, ap₂, inl, inr, arith}
-use Rattle.std.specs.Ordering.{MatchOrdering, ordering_then, ordering_reverse}
-use Rattle.std.proofs.lemmas.Bool.{lt-ltb, le-ltb, eq-eqb, ne_eqb, cases_order}
+use Rattle.std.proofs.Common.{◌≡◌, ℕ, ◌<◌, List, [], ◌∷◌, Ordering, Less, Equal, Greater, sym, refl, ap, ◌∙◌, subst, ap₂, inl, inr, arith}
+use Rattle.std.specs.Ordering.{MatchOrdering, nat_cmp, ordering_then, ordering_reverse}
+use Rattle.std.specs.Cmp.Lexicographic.{slice_cmp}
+use Rattle.std.proofs.lemmas.Cmp.{ranked}
 use Rattle.names.specs.Keys.{Key, key_of}
-use Rattle.names.specs.Order.{numbers, lexical, order, First, shorter, lower, later, Before, OneOf, Precedes, Ordered}
-
--- an order of two numbers is the answer for them
-pub numbers_is : (m n : ℕ) (o : Ordering) → MatchOrdering o (m < n) (m ≡ n) (n < m) → numbers m n ≡ o
-numbers_is m n Less h = rw (lt-ltb m n h) refl
-numbers_is m n Equal h = rw (le-ltb m n (omega arith)) (rw (eq-eqb m n h) refl)
-numbers_is m n Greater h = rw (le-ltb m n (omega arith)) (rw (ne_eqb m n (λ e. omega arith)) refl)
-
--- the answer for two numbers is an order of them
-pub numbers_ranked : (m n : ℕ) → MatchOrdering (numbers m n) (m < n) (m ≡ n) (n < m)
-numbers_ranked m n = by_cases (cases_order m n)
-  where
-    at : (o : Ordering) → MatchOrdering o (m < n) (m ≡ n) (n < m) → MatchOrdering (numbers m n) (m < n) (m ≡ n) (n < m)
-    at o h = rw (numbers_is m n o h) h
-
-    by_cases : (m ≡ n) ⊎ ((m < n) ⊎ (n < m)) → MatchOrdering (numbers m n) (m < n) (m ≡ n) (n < m)
-    by_cases (inl e) = at Equal e
-    by_cases (inr (inl l)) = at Less l
-    by_cases (inr (inr l)) = at Greater l
-
--- what follows an answer that is not `Equal` does not matter
-pub then_kept : (o p : Ordering) → (o ≡ Equal → ⊥) → o ≡ ordering_then o p
-then_kept Less p n = refl
-then_kept Equal p n = absurd (n refl)
-then_kept Greater p n = refl
+use Rattle.names.specs.Order.{order, First, shorter, lower, later, Before, OneOf, Precedes, Ordered}
 
 -- the answer for two lists tells which stands first
-pub lexical_ranked : (xs ys : List ℕ) → MatchOrdering (lexical xs ys) (First xs ys) (xs ≡ ys) (First ys xs)
+pub lexical_ranked : (xs ys : List ℕ) → MatchOrdering (slice_cmp nat_cmp xs ys) (First xs ys) (xs ≡ ys) (First ys xs)
 lexical_ranked [] [] = refl
 lexical_ranked [] (y ∷ ys) = shorter
 lexical_ranked (x ∷ xs) [] = shorter
-lexical_ranked (x ∷ xs) (y ∷ ys) = by_head (numbers x y) (lexical xs ys) (numbers_ranked x y) (lexical_ranked xs ys)
+lexical_ranked (x ∷ xs) (y ∷ ys) = by_head (nat_cmp x y) (slice_cmp nat_cmp xs ys) (ranked x y _ refl) (lexical_ranked xs ys)
   where
     moved : {a b : ℕ} (e : a ≡ b) (as' bs : List ℕ) → First as' bs → First (a ∷ as') (b ∷ bs)
     moved {a} e as' bs f = subst (λ v. First (a ∷ as') (v ∷ bs)) e (later f)
@@ -48,7 +25,7 @@ lexical_ranked (x ∷ xs) (y ∷ ys) = by_head (numbers x y) (lexical xs ys) (nu
 
 -- the answer for two keys tells which stands before
 pub order_ranked : (j k : Key) → MatchOrdering (order j k) (Before j k) (j ≡ k) (Before k j)
-order_ranked j k = by_units (numbers j.units k.units) (lexical j.folded k.folded) (numbers_ranked j.units k.units) (lexical_ranked j.folded k.folded)
+order_ranked j k = by_units (nat_cmp j.units k.units) (slice_cmp nat_cmp j.folded k.folded) (ranked j.units k.units _ refl) (lexical_ranked j.folded k.folded)
   where
     by_units : (o p : Ordering) → MatchOrdering o (j.units < k.units) (j.units ≡ k.units) (k.units < j.units) → MatchOrdering p (First j.folded k.folded) (j.folded ≡ k.folded) (First k.folded j.folded) → MatchOrdering (ordering_then o p) (Before j k) (j ≡ k) (Before k j)
     by_units Less p h f = inl h

@@ -1,30 +1,21 @@
 -- The order of names in a directory: shorter first, and names of one length by their folded code points.
 --
---   numbers m n    how two numbers compare
---   lexical xs ys  how two lists compare: by the first place where they differ; a list before its longer ones
---   order j k      how two keys compare: by unit count, then by folded code points
+--   order j k      how two keys compare: by unit count, then by folded code points, that is by the first place where they
+--                  differ, a list before its longer ones
 --   First xs ys    xs stands before ys in the order of lists, as a relation
 --   Before j k     j stands before k in the order of keys, as a relation
 --   Precedes fold  the relation on names, by their keys
 --   compared fold  the answer on names, by their keys
 --   Ordered fold   what the order of names keeps under a folding: it is total
-use Rattle.std.specs.Prelude.{◌≡◌, ℕ, ◌<◌, cond, ◌⊎◌, List, [], ◌∷◌, ◌==◌, nat_lt}
-use Rattle.std.specs.declared.cmp.Ordering.TheVariants.{Less, Equal, Greater}
+use Rattle.std.specs.Prelude.{◌≡◌, ℕ, ◌<◌, ◌⊎◌, List, [], ◌∷◌}
+use Rattle.std.specs.declared.cmp.Ordering.TheVariants.{Equal}
 use Rattle.std.specs.declared.cmp.Ordering.{Ordering}
-use Rattle.std.specs.Ordering.{MatchOrdering, ordering_then, ordering_reverse}
+use Rattle.std.specs.Ordering.{MatchOrdering, nat_cmp, ordering_then, ordering_reverse}
+use Rattle.std.specs.Cmp.Lexicographic.{slice_cmp}
 use Rattle.names.specs.Keys.{Key, key_of}
 
-abbrev pub numbers : ℕ → ℕ → Ordering
-numbers m n = cond (nat_lt m n) Less (cond (m == n) Equal Greater)
-
-abbrev pub lexical : List ℕ → List ℕ → Ordering
-lexical [] [] = Equal
-lexical [] (y ∷ ys) = Less
-lexical (x ∷ xs) [] = Greater
-lexical (x ∷ xs) (y ∷ ys) = ordering_then (numbers x y) (lexical xs ys)
-
 abbrev pub order : Key → Key → Ordering
-order j k = ordering_then (numbers j.units k.units) (lexical j.folded k.folded)
+order j k = ordering_then (nat_cmp j.units k.units) (slice_cmp nat_cmp j.folded k.folded)
 
 pub data First : List ℕ → List ℕ → Type 0 where
   shorter : {y : ℕ} {ys : List ℕ} → First [] (y ∷ ys)

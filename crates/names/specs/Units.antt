@@ -7,7 +7,8 @@
 --                   code point, any other unit is one by itself
 --   well_formed us  no surrogate stands by itself: every high one is followed by a low one, and no low one is alone
 --   Spells us cs    us is the UTF-16 of the code points cs, one by one
-use Rattle.std.specs.Prelude.{◌≡◌, ℕ, ◌+◌, ◌-◌, ◌*◌, Bool, true, false, cond, not, ◌&&◌, List, [], ◌∷◌, nat_le}
+use Rattle.std.specs.Prelude.{◌≡◌, ℕ, ◌+◌, ◌-◌, ◌*◌, Bool, false, true, cond, not, ◌&&◌, List, [], ◌∷◌, nat_le}
+use Rattle.std.specs.List.{list_all}
 
 abbrev pub high : ℕ → Bool
 high u = nat_le 0xd800 u && nat_le u 0xdbff
@@ -27,8 +28,7 @@ codes (u ∷ []) = u ∷ []
 codes (u ∷ v ∷ us) = cond (high u && low v) (joined u v ∷ codes us) (u ∷ codes (v ∷ us))
 
 abbrev pub no_surrogate : List ℕ → Bool
-no_surrogate [] = true
-no_surrogate (c ∷ cs) = not (surrogate c) && no_surrogate cs
+no_surrogate cs = list_all (λ c. not (surrogate c)) cs
 
 abbrev pub well_formed : List ℕ → Bool
 well_formed us = no_surrogate (codes us)

@@ -1,9 +1,10 @@
 //! Foldings: how letters are compared without regard to case.
-ghost use Rattle.std.specs.Prelude.{◌≡◌, ℕ, ◌<◌, cond};
+ghost use Rattle.std.specs.Prelude.{◌≡◌, ℕ, cond, refl};
+ghost use Rattle.std.proofs.Common.{ap};
+ghost use Rattle.std.proofs.lemmas.Bool.{lt-ltb};
 ghost use Rattle.names.specs.Foldings.{ascii_upper, ascii_fold, paired, table_fold, KeepsAscii};
 
-/// One fixed map from code points to numbers, the same whenever it is asked. Its law is that a to z go to A to Z and
-/// every other code below 128 to itself.
+/// One fixed map from code points to numbers, the same whenever it is asked.
 pub trait Folding {
     /// The map.
     ghost folds: { Self → ℕ → ℕ };
@@ -12,27 +13,26 @@ pub trait Folding {
     fn fold(&self, code: u32) -> u32
         ensures { result ≡ folds self.now code };
 
-    /// States the law for every code at once, for proofs to call; it does nothing.
-    fn keeps_ascii(&self)
-        ensures { KeepsAscii (folds self.now) };
+    /// The law: a to z go to A to Z, and every other code below 128 to itself.
+    ghost keeps_ascii: { (f : Self) → KeepsAscii (folds f) };
 }
 
 /// Folds a to z, and leaves every other code.
-#[derive(Clone, Copy)]
+#[derive(Debug, Clone, Copy, PartialEq, Eq)]
 pub struct AsciiFolding;
 
 impl Folding for AsciiFolding {
     ghost folds = { λ _. ascii_fold };
 
+    ghost keeps_ascii = { λ f c h. refl };
+
     fn fold(&self, code: u32) -> u32 {
         ascii_upper(code)
     }
-
-    fn keeps_ascii(&self) {}
 }
 
 /// Folds a to z, and looks codes above 127 up in a lent list of pairs, first pair first; a code without a pair stays.
-#[derive(Clone, Copy)]
+#[derive(Debug, Clone, Copy, PartialEq, Eq)]
 pub struct TableFolding<'a> {
     pairs: &'a [(u32, u32)],
 }
@@ -48,6 +48,8 @@ impl<'a> TableFolding<'a> {
 impl Folding for TableFolding<'_> {
     ghost folds = { λ f. table_fold f.pairs.now };
 
+    ghost keeps_ascii = { λ f c h. ap (λ b. cond b (ascii_upper c) (paired f.pairs.now c)) (lt-ltb c 128 h) };
+
     fn fold(&self, code: u32) -> u32 {
         if code < 128 {
             ascii_upper(code)
@@ -55,17 +57,14 @@ impl Folding for TableFolding<'_> {
             look_up(self.pairs, code)
         }
     }
-
-    fn keeps_ascii(&self) {}
 }
 
 fn ascii_upper(code: u32) -> u32
     ensures { result ≡ ascii_upper code }
 {
-    if 97 <= code && code <= 122 {
-        code - 32
-    } else {
-        code
+    match code {
+        97..=122 => code - 32,
+        _ => code,
     }
 }
 
@@ -73,10 +72,8 @@ fn ascii_upper(code: u32) -> u32
 fn look_up(pairs: &[(u32, u32)], code: u32) -> u32
     ensures { result ≡ paired pairs.now code }
 {
-    for (from, to) in pairs {
-        if *from == code {
-            return *to;
-        }
-    }
-    code
+    pairs
+        .iter()
+        .find(|(from, _)| *from == code)
+        .map_or(code, |(_, to)| *to)
 }

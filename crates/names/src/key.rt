@@ -1,5 +1,5 @@
 //! A name's key: its unit count and its folded code points.
-ghost use Rattle.std.specs.Prelude.{◌≡◌, ◌≤◌, length, Decides};
+ghost use Rattle.std.specs.Prelude.{◌≡◌, ◌≤◌, ◌+◌, ◌<◌, length, slice_set, Decides};
 ghost use Rattle.std.proofs.Common.{rules};
 ghost use Rattle.std.specs.Cmp.Rules.{comparing};
 ghost use Rattle.names.specs.Names.{spelled};
@@ -7,10 +7,11 @@ ghost use Rattle.names.specs.Keys.{key_of, keyed, in_place, same_key};
 
 use crate::folding::Folding;
 use crate::name::{MAX_NAME_LEN, Name};
-use crate::utf16::first_code;
+use crate::utf16::code_points;
 
 /// A name's key, in place. Two names are the same name of a directory exactly when their keys are equal.
-#[derive(Clone, Copy)]
+// Fixed memory: a key lies in the caller's cell, so its codes are an array with a count.
+#[derive(Debug, Clone, Copy)]
 pub struct NameKey {
     pub unit_count: u8,
     pub code_count: u8,
@@ -24,6 +25,15 @@ impl NameKey {
     {
         let count = usize::from(self.code_count).min(MAX_NAME_LEN);
         &self.codes[..count]
+    }
+
+    /// One folded code point more.
+    fn push(&mut self, code: u32)
+        requires { self.old.code_count < 31 }
+        ensures { self.new ≡ record self.old { code_count = self.old.code_count + 1; codes = slice_set self.old.codes self.old.code_count code } }
+    {
+        self.codes[usize::from(self.code_count)] = code;
+        self.code_count += 1;
     }
 }
 
@@ -49,24 +59,14 @@ impl Eq for NameKey {
 pub fn name_key<F: Folding>(folding: &F, name: &Name) -> NameKey
     ensures { result ≡ in_place (key_of (F.folds folding.now) (spelled name.now)) }
 {
-    fold_units(folding, name.units())
-}
-
-fn fold_units<F: Folding>(folding: &F, units: &[u16]) -> NameKey
-    requires { length units.now ≤ 31 }
-    ensures { result ≡ in_place (key_of (F.folds folding.now) units.now) }
-{
-    let mut codes = [0; 31];
-    let mut count: usize = 0;
-    let mut rest = units;
-    while let Some(first) = first_code(rest) {
-        codes[count] = folding.fold(first.code);
-        count += 1;
-        rest = first.rest;
-    }
-    NameKey {
+    let units = name.units();
+    let mut key = NameKey {
         unit_count: units.len() as u8,
-        code_count: count as u8,
-        codes,
+        code_count: 0,
+        codes: [0; 31],
+    };
+    for code in code_points(units) {
+        key.push(folding.fold(code));
     }
+    key
 }

@@ -1,11 +1,13 @@
 //! The order of names in a directory.
 ghost use Rattle.std.specs.Prelude.{◌≡◌, map};
+ghost use Rattle.std.specs.Cmp.Lexicographic.{slice_cmp};
+ghost use Rattle.std.specs.Ordering.{nat_cmp};
 ghost use Rattle.names.specs.Units.{codes};
 ghost use Rattle.names.specs.Keys.{key_of};
-ghost use Rattle.names.specs.Order.{order, lexical, Ordered};
+ghost use Rattle.names.specs.Order.{order, Ordered};
 
 use crate::folding::Folding;
-use crate::utf16::first_code;
+use crate::utf16::code_points;
 use std::cmp::Ordering;
 
 /// How two names compare: the shorter first, by its units; of two of one length, by their folded code points.
@@ -19,24 +21,11 @@ pub fn compare_names<F: Folding>(folding: &F, left: &[u16], right: &[u16]) -> Or
 }
 
 fn compare_folded<F: Folding>(folding: &F, left: &[u16], right: &[u16]) -> Ordering
-    ensures { result ≡ lexical (map (F.folds folding.now) (codes left.now)) (map (F.folds folding.now) (codes right.now)) }
+    ensures { result ≡ slice_cmp nat_cmp (map (F.folds folding.now) (codes left.now)) (map (F.folds folding.now) (codes right.now)) }
 {
-    let mut left = left;
-    let mut right = right;
-    loop {
-        match (first_code(left), first_code(right)) {
-            (None, None) => return Ordering::Equal,
-            (None, Some(_)) => return Ordering::Less,
-            (Some(_), None) => return Ordering::Greater,
-            (Some(x), Some(y)) => match folding.fold(x.code).cmp(&folding.fold(y.code)) {
-                Ordering::Equal => {
-                    left = x.rest;
-                    right = y.rest;
-                }
-                other => return other,
-            },
-        }
-    }
+    let left = code_points(left).map(|code| folding.fold(code));
+    let right = code_points(right).map(|code| folding.fold(code));
+    left.cmp(right)
 }
 
 /// States that names are totally ordered by `compare_names`, for proofs to call; it does nothing.

@@ -1,33 +1,55 @@
 //! UTF-16 units taken apart into code points.
 ghost use Rattle.std.specs.Prelude.{◌≡◌, ℕ, ◌<◌, true, ◌&&◌, List, [], ◌∷◌, length, Decides, MatchOption};
+ghost use Rattle.std.specs.Iterator.{YieldsFirst, item_count};
 ghost use Rattle.names.specs.Units.{high, low, surrogate, joined, codes, well_formed, Spells};
 
-/// The first code point of some units, and the units after it.
-#[derive(Clone, Copy)]
-pub struct Code<'a> {
-    pub code: u32,
-    pub rest: &'a [u16],
+/// The code points of some units, from the front. A surrogate that stands by itself is handed out as it is:
+/// `is_well_formed` tells whether there is one.
+#[derive(Debug, Clone, Copy)]
+pub struct CodePoints<'a> {
+    units: &'a [u16],
+}
+
+/// The code points of `units`.
+pub fn code_points(units: &[u16]) -> CodePoints<'_>
+    ensures { result.units.now ≡ units.now }
+{
+    CodePoints { units }
+}
+
+impl Iterator for CodePoints<'_> {
+    type Item = u32;
+
+    ghost next_gives = { YieldsFirst (λ s. codes s.units.now) };
+
+    ghost remaining = { item_count (λ s. codes s.units.now) };
+
+    fn next(&mut self) -> Option<u32> {
+        let (code, rest) = first_code(self.units)?;
+        self.units = rest;
+        Some(code)
+    }
 }
 
 /// Whether a unit is the first half of a surrogate pair.
 fn is_high(unit: u16) -> bool
     ensures { result ≡ high unit }
 {
-    0xd800 <= unit && unit <= 0xdbff
+    (0xd800..=0xdbff).contains(&unit)
 }
 
 /// Whether a unit is the second half of a surrogate pair.
 fn is_low(unit: u16) -> bool
     ensures { result ≡ low unit }
 {
-    0xdc00 <= unit && unit <= 0xdfff
+    (0xdc00..=0xdfff).contains(&unit)
 }
 
 /// Whether a code is one half of a surrogate pair, and so no code point.
 fn is_surrogate(code: u32) -> bool
     ensures { result ≡ surrogate code }
 {
-    0xd800 <= code && code <= 0xdfff
+    (0xd800..=0xdfff).contains(&code)
 }
 
 fn is_pair(first: u16, second: u16) -> bool
@@ -44,21 +66,16 @@ fn join(first: u16, second: u16) -> u32
     0x10000 + (u32::from(first) - 0xd800) * 0x400 + (u32::from(second) - 0xdc00)
 }
 
-/// The first code point of `units`; none where there are no units. A surrogate that stands by itself is handed out
-/// as it is: `is_well_formed` tells whether there is one.
-pub fn first_code(units: &[u16]) -> Option<Code<'_>>
-    ensures codes { MatchOption result (units.now ≡ []) (λ first. codes units.now ≡ first.code ∷ codes first.rest.now) }
-    ensures shorter { MatchOption result (units.now ≡ []) (λ first. length first.rest.now < length units.now) }
+/// The first code point of `units` and the units after it; none where there are no units.
+fn first_code(units: &[u16]) -> Option<(u32, &[u16])>
+    ensures codes { MatchOption result (units.now ≡ []) (λ first. codes units.now ≡ first.0 ∷ codes first.1.now) }
+    ensures shorter { MatchOption result (units.now ≡ []) (λ first. length first.1.now < length units.now) }
 {
     match units {
-        [first, second, rest @ ..] if is_pair(*first, *second) => Some(Code {
-            code: join(*first, *second),
-            rest,
-        }),
-        [unit, rest @ ..] => Some(Code {
-            code: u32::from(*unit),
-            rest,
-        }),
+        [first, second, rest @ ..] if is_pair(*first, *second) => {
+            Some((join(*first, *second), rest))
+        }
+        [unit, rest @ ..] => Some((u32::from(*unit), rest)),
         [] => None,
     }
 }
@@ -69,12 +86,5 @@ pub fn is_well_formed(units: &[u16]) -> bool
     ensures spells { Decides result (Spells units.now (codes units.now)) }
     ensures only { (cs : List ℕ) → Spells units.now cs → cs ≡ codes units.now }
 {
-    let mut rest = units;
-    while let Some(first) = first_code(rest) {
-        if is_surrogate(first.code) {
-            return false;
-        }
-        rest = first.rest;
-    }
-    true
+    code_points(units).all(|code| !is_surrogate(code))
 }

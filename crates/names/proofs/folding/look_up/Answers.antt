@@ -1,13 +1,12 @@
-use Rattle.names.proofs.Scanning.{paired_here, paired_later, paired_none}
+use Rattle.std.proofs.Common.{eqb, rules, tests}
+use Rattle.std.proofs.lemmas.Iterator.{YieldsList-from_slice}
+use Rattle.std.proofs.lemmas.Iterator.Search.{find_from_yields_List}
+use Rattle.names.proofs.Scanning.{paired_found}
 use Rattle.names.proofs.folding.look_up.Goals as goal
 
-pub returns-then-from-code : goal.returns-then-from-code
-returns-then-from-code c =
-    paired_here c.args.pairs.now c.args.code c.loop-from.from-index c.loop-from-test.true c.loop-from.invariant c.if-from-code.true
-
-pub loop-from-preserved : goal.loop-from-preserved
-loop-from-preserved c =
-    paired_later c.args.pairs.now c.args.code c.loop-from.from-index c.loop-from-test.true c.loop-from.invariant c.if-from-code.false
-
 pub returns : goal.returns
-returns c = paired_none c.args.pairs.now c.args.code c.loop-from.from-index c.loop-from-test.false c.loop-from.invariant
+returns c =
+    let ps = c.args.pairs.now in
+    paired_found ps c.args.code c.find.result c.map_or.result _
+    (find_from_yields_List (λ p. eqb p.0 c.args.code) c.find.new.self _ c.find.result c.find.ensures.ran (YieldsList-from_slice ps cc) (λ x b q k. search (rules, tests)))
+    c.map_or.ensures (λ p k. search rules)

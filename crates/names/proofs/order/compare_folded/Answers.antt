@@ -1,16 +1,15 @@
-use Rattle.std.proofs.Common.{Equal}
-use Rattle.std.proofs.lemmas.Cmp.{ranked}
-use Rattle.names.proofs.FoldedOrder.{equal_so_far, decided}
+use Rattle.std.proofs.Common.{◌≡◌, refl, rules}
+use Rattle.std.specs.Ordering.{nat_cmp}
+use Rattle.std.proofs.lemmas.Iterator.{YieldsList-from_map}
+use Rattle.std.proofs.lemmas.Iterator.Search.{cmp_from_yields_List}
+use Rattle.std.proofs.lemmas.Iterator.Consumers.{YieldsList-at}
+use Rattle.names.proofs.CodePoints.{gives_codes}
 use Rattle.names.proofs.order.compare_folded.Goals as goal
 
-pub loop-x-preserved : goal.loop-x-preserved
-loop-x-preserved g c =
-    equal_so_far (g.F.Folding.folds c.args.folding.now) c.loop-x.left.now c.loop-x.right.now _ c.loop-x.invariant
-    _ _ _ _ c.in-Some-Some.x.rest.now c.in-Some-Some.y.rest.now
-    c.in-Some-Some.ensures.codes c.in-Some-Some.ensures'.codes c.fold.ensures c.fold-in-Some-Some.ensures (ranked _ _ Equal c.in-Equal.ensures)
-
-pub returns-in_default : goal.returns-in_default
-returns-in_default g c =
-    decided (g.F.Folding.folds c.args.folding.now) c.loop-x.left.now c.loop-x.right.now _ c.loop-x.invariant
-    _ _ _ _ c.in-Some-Some.x.rest.now c.in-Some-Some.y.rest.now _
-    c.in-Some-Some.ensures.codes c.in-Some-Some.ensures'.codes c.fold.ensures c.fold-in-Some-Some.ensures (ranked _ _ _ c.cmp.ensures) c.in_default.not-Equal
+pub returns : goal.returns
+returns g c =
+    let fold = g.F.Folding.folds c.args.folding.now in
+    cmp_from_yields_List (λ x y. y ≡ x) c.map-right.result nat_cmp c.cmp.result c.cmp.ensures.ran
+    (YieldsList-from_map _ fold (YieldsList-at c.map-left.ensures.source (gives_codes c.args.left.now c.code_points.ensures)) c.map-left.ensures.closure (λ x r q k. search rules))
+    (λ it e. YieldsList-at e (YieldsList-from_map _ fold (YieldsList-at c.map-right.ensures.source (gives_codes c.args.right.now c.code_points-2.ensures)) c.map-right.ensures.closure (λ x r q k. search rules)))
+    (λ x y. refl)
