@@ -1,6 +1,6 @@
 -- Arrays of fixed length that are filled from the front.
-use Rattle.std.proofs.Common.{◌≡◌, ℕ, suc, ◌+◌, ◌-◌, ◌<◌, ◌≤◌, min, ◌⊎◌, List, [], ◌∷◌, ◌++◌, length, get_or, take, set, replicate, sym, refl, ap, ◌∙◌, inl, inr, append_assoc, arith}
-use Rattle.std.proofs.lemmas.List.{length_push, set_at, take_more, length-take-le, take_all, take_at}
+use Rattle.std.proofs.Common.{◌≡◌, ℕ, suc, ◌-◌, ◌<◌, ◌≤◌, min, ◌⊎◌, List, [], ◌∷◌, ◌++◌, length, take, set, replicate, sym, refl, ap, ◌∙◌, inl, inr, append_assoc, arith}
+use Rattle.std.proofs.lemmas.List.{length_push, set_at, take_all}
 use Rattle.std.proofs.lemmas.Bool.{cases_lt}
 use Rattle.names.specs.Padding.{padded}
 
@@ -15,19 +15,6 @@ padded_more w xs ps i x l h e =
     let s : set ps i x ≡ xs ++ x ∷ replicate (w - length xs - 1) 0 = rw (e, z) (set_at xs 0 (replicate (w - length xs - 1) 0) x i l) in
     let c : w - length (xs ++ x ∷ []) ≡ w - length xs - 1 = rw (length_push xs x) (omega arith) in
     s ∙ rw (c, append_assoc) refl
-
--- what was filled in
-pub taken_padded : (w : ℕ) (xs : List ℕ) → take (length xs) (padded w xs) ≡ xs
-taken_padded w xs = take_at xs (replicate (w - length xs) 0) (length xs) refl
-
--- a copy of a list, one element on
-pub copied_more : (w : ℕ) (us ps : List ℕ) (i : ℕ) → i < length us → i < w → ps ≡ padded w (take i us) → set ps i (get_or us i 0) ≡ padded w (take (i + 1) us)
-copied_more w us ps i h l e =
-    rw (take_more us i 0 h) (padded_more w (take i us) ps i (get_or us i 0) (length-take-le i us (omega arith)) l e)
-
--- a copy of a list, at its end
-pub copied_all : (w : ℕ) (us ps : List ℕ) (i : ℕ) → length us ≤ i → ps ≡ padded w (take i us) → ps ≡ padded w us
-copied_all w us ps i h e = e ∙ ap (padded w) (take_all i us h)
 
 -- a front that is cut off at the array's length is the front
 pub front_capped : (xs : List ℕ) (w n m : ℕ) → length xs ≡ w → n ≡ min m w → take (n - 0) xs ≡ take m xs

@@ -1,7 +1,7 @@
 pub mod CodePoints
 pub mod Filling
 pub mod KeyFilling
-pub mod Scanning
+pub mod Pairs
 pub mod Spelling
 pub mod TotalOrder
 pub mod Worked

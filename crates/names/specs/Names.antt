@@ -5,7 +5,8 @@
 --   forbidden u    u is one of / \ : !
 --   allowed us     none of the units is forbidden
 --   name_number e  the number of a refusal
-use Rattle.std.specs.Prelude.{ℕ, Bool, true, not, ◌&&◌, ◌||◌, List, [], ◌∷◌, length, take, ◌==◌}
+use Rattle.std.specs.Prelude.{ℕ, Bool, not, ◌||◌, List, length, take, ◌==◌}
+use Rattle.std.specs.List.{list_all}
 use Rattle.names.specs.Padding.{padded}
 use Rattle.names.specs.declared.name.Name.{Name}
 use Rattle.names.specs.declared.name.NameError.{NameError}
@@ -21,8 +22,7 @@ abbrev pub forbidden : ℕ → Bool
 forbidden u = u == 47 || (u == 92 || (u == 58 || u == 33))
 
 abbrev pub allowed : List ℕ → Bool
-allowed [] = true
-allowed (u ∷ us) = not (forbidden u) && allowed us
+allowed us = list_all (λ u. not (forbidden u)) us
 
 abbrev pub name_number : NameError → ℕ
 name_number TooLong = 12

@@ -7,14 +7,15 @@ ghost use Rattle.names.specs.Names.{spelled, name_of, forbidden, allowed, name_n
 pub const MAX_NAME_LEN: usize = 31;
 
 /// A name of a storage or a stream: up to 31 units, counted, in place.
-#[derive(Clone, Copy)]
+// Fixed memory: a name lies in the slots that a caller lends, so its units are an array with a count.
+#[derive(Debug, Clone, Copy, PartialEq, Eq)]
 pub struct Name {
     len: u8,
     units: [u16; 31],
 }
 
 /// Why units are no name, or not one that an entry may be given.
-#[derive(Clone, Copy)]
+#[derive(Debug, Clone, Copy, PartialEq, Eq)]
 pub enum NameError {
     /// There are more than 31 units.
     TooLong,
@@ -44,9 +45,7 @@ impl Name {
             return Err(NameError::TooLong);
         }
         let mut padded = [0; 31];
-        for i in 0..len {
-            padded[i] = units[i];
-        }
+        padded[..len].copy_from_slice(units);
         Ok(Name {
             len: len as u8,
             units: padded,
@@ -58,14 +57,8 @@ impl Name {
         ensures spelled { result.now ≡ spelled self.now }
         ensures few { length result.now ≤ 31 }
     {
-        let len = self.count();
-        &self.units[0..len]
-    }
-
-    fn count(&self) -> usize
-        ensures { result ≡ min self.now.len 31 }
-    {
-        usize::from(self.len).min(MAX_NAME_LEN)
+        let len = usize::from(self.len).min(MAX_NAME_LEN);
+        &self.units[..len]
     }
 }
 
@@ -73,22 +66,14 @@ impl Name {
 fn is_forbidden(unit: u16) -> bool
     ensures { result ≡ forbidden unit }
 {
-    match unit {
-        47 | 92 | 58 | 33 => true,
-        _ => false,
-    }
+    matches!(unit, 47 | 92 | 58 | 33)
 }
 
 /// Whether none of `/ \ : !` stands among the units.
 pub fn is_allowed(units: &[u16]) -> bool
     ensures { result ≡ allowed units.now }
 {
-    for unit in units {
-        if is_forbidden(*unit) {
-            return false;
-        }
-    }
-    true
+    units.iter().all(|unit| !is_forbidden(*unit))
 }
 
 /// The name that an entry may be given: at most 31 units, and none of them forbidden.

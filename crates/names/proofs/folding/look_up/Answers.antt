@@ -1,7 +1,7 @@
 use Rattle.std.proofs.Common.{eqb, rules, tests}
 use Rattle.std.proofs.lemmas.Iterator.{YieldsList-from_slice}
 use Rattle.std.proofs.lemmas.Iterator.Search.{find_from_yields_List}
-use Rattle.names.proofs.Scanning.{paired_found}
+use Rattle.names.proofs.Pairs.{paired_found}
 use Rattle.names.proofs.folding.look_up.Goals as goal
 
 pub returns : goal.returns
