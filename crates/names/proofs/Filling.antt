@@ -1,7 +1,6 @@
 -- Arrays of fixed length that are filled from the front.
-use Rattle.std.proofs.Common.{◌≡◌, ℕ, suc, ◌-◌, ◌<◌, ◌≤◌, min, ◌⊎◌, List, [], ◌∷◌, ◌++◌, length, take, set, replicate, sym, refl, ap, ◌∙◌, inl, inr, append_assoc, arith}
-use Rattle.std.proofs.lemmas.List.{length_push, set_at, take_all}
-use Rattle.std.proofs.lemmas.Bool.{cases_lt}
+use Rattle.std.proofs.Common.{◌≡◌, ℕ, suc, ◌-◌, ◌<◌, List, [], ◌∷◌, ◌++◌, length, set, replicate, refl, ap, ◌∙◌, append_assoc, arith}
+use Rattle.std.proofs.lemmas.List.{length_push, set_at}
 use Rattle.names.specs.Padding.{padded}
 
 -- at least one zero is left
@@ -15,11 +14,3 @@ padded_more w xs ps i x l h e =
     let s : set ps i x ≡ xs ++ x ∷ replicate (w - length xs - 1) 0 = rw (e, z) (set_at xs 0 (replicate (w - length xs - 1) 0) x i l) in
     let c : w - length (xs ++ x ∷ []) ≡ w - length xs - 1 = rw (length_push xs x) (omega arith) in
     s ∙ rw (c, append_assoc) refl
-
--- a front that is cut off at the array's length is the front
-pub front_capped : (xs : List ℕ) (w n m : ℕ) → length xs ≡ w → n ≡ min m w → take (n - 0) xs ≡ take m xs
-front_capped xs w n m l e = by_order (cases_lt w m)
-  where
-    by_order : (w < m) ⊎ (m ≤ w) → take (n - 0) xs ≡ take m xs
-    by_order (inl h) = let k : w ≤ n - 0 = omega arith in take_all (n - 0) xs (omega arith) ∙ sym (take_all m xs (omega arith))
-    by_order (inr h) = let k : n - 0 ≡ m = omega arith in rw k refl

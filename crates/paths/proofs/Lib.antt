@@ -1,4 +1,3 @@
-pub mod Chained
 pub mod Cutting
 pub mod Following
 pub mod Moments

@@ -1,6 +1,8 @@
 //! Paths: names from the root down, with `/` between them.
 #![tactic(auto)]
 
+ghost use Rattle.std.specs.Prelude.{◌≤◌};
+
 mod chain;
 pub mod examples;
 mod reader;
@@ -12,7 +14,7 @@ pub use chain::{moments_are_counted, name_chain_from_path};
 pub const MAX_NAMES: usize = 64;
 
 /// Why a path is refused.
-#[derive(Clone, Copy)]
+#[derive(Debug, Clone, Copy, PartialEq, Eq)]
 pub enum PathError {
     /// A surrogate stands by itself.
     BadUtf16,
@@ -23,21 +25,21 @@ pub enum PathError {
 }
 
 /// A part of the caller's path between two separators, and the place of its first unit.
-#[derive(Clone, Copy)]
+#[derive(Debug, Clone, Copy, PartialEq, Eq)]
 pub struct Part<'a> {
     pub units: &'a [u16],
     pub place: usize,
 }
 
 /// Reads a lent path part by part.
-#[derive(Clone, Copy)]
+#[derive(Debug, Clone, Copy)]
 pub struct Parts<'a> {
     path: &'a [u16],
     at: usize,
 }
 
 /// What a part does to the names before it.
-#[derive(Clone, Copy)]
+#[derive(Debug, Clone, Copy, PartialEq, Eq)]
 pub enum Component {
     /// An empty part or `.`: nothing.
     CurDir,
@@ -47,17 +49,11 @@ pub enum Component {
     Normal,
 }
 
-/// Where a part stands in its path.
-#[derive(Clone, Copy)]
-pub struct Place {
-    start: usize,
-    len: usize,
-}
-
 /// The names of a path from the root down, as parts of the caller's units.
-#[derive(Clone, Copy)]
+// Fixed memory: there is no heap, so the names are an array with a count.
+#[derive(Debug, Clone, Copy)]
 pub struct NameChain<'a> {
-    path: &'a [u16],
-    places: [Place; 64],
+    names: [Part<'a>; 64],
     len: usize,
+    ghost few: { len ≤ 64 },
 }

@@ -1,7 +1,8 @@
 //! A lent path, read part by part.
-ghost use Rattle.std.specs.Prelude.{◌≡◌, ℕ, ◌+◌, ◌<◌, ◌≤◌, [], ◌∷◌, length, drop, IfSome, MatchOption};
+ghost use Rattle.std.specs.Prelude.{◌≡◌, ◌≤◌, ◌==◌, ⊤, length, IfSome};
+ghost use Rattle.std.specs.List.{position_or_len};
+ghost use Rattle.std.specs.Iterator.{YieldsFirstBy, MakesProgress, item_count};
 ghost use Rattle.paths.specs.Pieces.{cut, kind_of, path_number};
-ghost use Rattle.paths.specs.Separators.{until_separator};
 ghost use Rattle.paths.specs.Chains.{piece_of, left, Stands};
 
 use crate::{Component, Part, Parts, PathError};
@@ -31,38 +32,42 @@ impl<'a> Parts<'a> {
     {
         Parts { path, at: 0 }
     }
+}
+
+impl<'a> Iterator for Parts<'a> {
+    type Item = Part<'a>;
+
+    ghost next_gives = { YieldsFirstBy piece_of left };
+
+    ghost remaining = { item_count left };
 
     /// The next part, if one is left.
-    pub fn next(&mut self) -> Option<Part<'a>>
+    fn next(&mut self) -> Option<Part<'a>>
+        ensures steps { YieldsFirstBy piece_of left self.old result self.new }
+        ensures goes { MakesProgress (λ _. ⊤) (item_count left) self.old result self.new }
         ensures path { self.new.path.now ≡ self.old.path.now }
-        ensures part { MatchOption result (left self.old ≡ []) (λ p. left self.old ≡ piece_of p ∷ left self.new) }
         ensures lent { IfSome result (λ p. Stands p self.old.path.now) }
     {
-        let path = self.path;
-        let start = self.at;
-        if start > path.len() {
-            return None;
-        }
-        let end = end_of_part(path, start);
-        self.at = end + 1;
+        let place = self.at;
+        let rest = self.path.get(place..)?;
+        let len = until_separator(rest);
+        self.at = place + len + 1;
         Some(Part {
-            units: &path[start..end],
-            place: start,
+            units: &rest[..len],
+            place,
         })
     }
 }
 
-/// Where the part ends that begins at `start`: at the next separator, or at the end of the path.
-fn end_of_part(path: &[u16], start: usize) -> usize
-    requires { start ≤ length path.now }
-    ensures value { result ≡ start + until_separator (drop start path.now) }
-    ensures within { (start ≤ result) × (result ≤ length path.now) }
+/// How many units stand before the first separator.
+fn until_separator(units: &[u16]) -> usize
+    ensures value { result ≡ position_or_len (λ unit. unit == 47) units.now }
+    ensures within { result ≤ length units.now }
 {
-    let mut end = start;
-    while end < path.len() && path[end] != SEPARATOR {
-        end += 1;
-    }
-    end
+    units
+        .iter()
+        .position(|unit| *unit == SEPARATOR)
+        .unwrap_or(units.len())
 }
 
 impl Component {

@@ -1,43 +1,43 @@
 //! The names of a path that is being followed.
-ghost use Rattle.std.specs.Prelude.{◌≡◌, ◌+◌, ◌^◌, ◌<◌, nat_lt};
+ghost use Rattle.std.specs.Prelude.{◌≡◌, ◌+◌, ◌^◌, ◌<◌, MatchResult};
+ghost use Rattle.paths.specs.declared.PathError.TheVariants.{AboveRoot};
 ghost use Rattle.paths.specs.Trails.{entered, shortened};
 
-use crate::{MAX_NAMES, Place};
+use crate::{MAX_NAMES, Part, PathError};
 
-/// The names met so far and not taken away: their places, while there are at most 64 of them.
+/// The names met so far and not taken away, while there are at most 64 of them.
+// Fixed memory: there is no heap, so the names are an array with a count.
 #[derive(Clone, Copy)]
-pub(super) struct Trail {
-    pub(super) places: [Place; 64],
+pub(super) struct Trail<'a> {
+    pub(super) names: [Part<'a>; 64],
     pub(super) len: usize,
-    /// Whether there were ever more than 64.
-    pub(super) over: bool,
+    /// The most names that there ever were.
+    pub(super) most: usize,
 }
 
-impl Trail {
-    /// One name more.
-    pub(super) fn enter(&mut self, place: Place)
+impl<'a> Trail<'a> {
+    /// One name more. It is kept while there is room for it.
+    pub(super) fn enter(&mut self, name: Part<'a>)
         requires { self.old.len + 1 < 2 ^ 64 }
-        ensures { self.new ≡ entered self.old place }
+        ensures { self.new ≡ entered self.old name.entry }
     {
         let len = self.len;
-        if len < MAX_NAMES {
-            self.places[len] = place;
-        } else {
-            self.over = true;
-        }
         self.len = len + 1;
+        self.most = self.most.max(len + 1);
+        if len < MAX_NAMES {
+            self.names[len] = name;
+        }
     }
 
-    /// Takes the last name away, if there is one.
-    pub(super) fn leave(&mut self) -> bool
-        ensures value { result ≡ nat_lt 0 self.old.len }
+    /// Takes the last name away; there has to be one.
+    pub(super) fn leave(&mut self) -> Result<(), PathError>
+        ensures value { MatchResult result (λ _. 0 < self.old.len) (λ e. (e ≡ AboveRoot) × (self.old.len ≡ 0)) }
         ensures after { self.new ≡ shortened self.old }
     {
-        let len = self.len;
-        if len == 0 {
-            return false;
+        if self.len == 0 {
+            return Err(PathError::AboveRoot);
         }
-        self.len = len - 1;
-        true
+        self.len -= 1;
+        Ok(())
     }
 }

@@ -1,13 +1,14 @@
-use Rattle.std.proofs.Common.{◌≡◌, true, sym, refl, subst}
+use Rattle.std.proofs.Common.{◌≡◌, ◌≤◌, true, sym, subst, arith}
 use Rattle.names.specs.Units.{well_formed}
 use Rattle.paths.specs.Pieces.{AllWellFormed}
 use Rattle.paths.proofs.Following.{followed}
 use Rattle.paths.proofs.SpelledNames.{names_well_formed}
 use Rattle.paths.proofs.chain.name_chain_from_path.Goals as goal
 
-pub returns : goal.returns
-returns c =
+pub returns-clause-spelled : goal.returns-clause-spelled
+returns-clause-spelled c =
     let us = c.args.path.now in
     let well : well_formed us ≡ true = sym c.if-not-is_well_formed.ensures.value in
-    let names = followed us c.in_ok-trail.trail c.in_ok-trail.ensures c.if-trail.false well in
-    record { names = names; spelled = subst AllWellFormed (sym names.1) (names_well_formed us well); lent = refl }
+    let few : c.in_ok-trail.trail.most ≤ 64 = omega arith in
+    let names = followed us c.in_ok-trail.trail c.in_ok-trail.ensures few well in
+    subst AllWellFormed (sym names.1) (names_well_formed us well)
