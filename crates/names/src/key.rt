@@ -15,7 +15,7 @@ use crate::utf16::code_points;
 pub struct NameKey {
     pub unit_count: u8,
     pub code_count: u8,
-    pub codes: [u32; 31],
+    pub codes: [u32; MAX_NAME_LEN],
 }
 
 impl NameKey {
@@ -63,7 +63,7 @@ pub fn name_key<F: Folding>(folding: &F, name: &Name) -> NameKey
     let mut key = NameKey {
         unit_count: units.len() as u8,
         code_count: 0,
-        codes: [0; 31],
+        codes: [0; MAX_NAME_LEN],
     };
     for code in code_points(units) {
         key.push(folding.fold(code));

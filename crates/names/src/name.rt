@@ -11,7 +11,7 @@ pub const MAX_NAME_LEN: usize = 31;
 #[derive(Debug, Clone, Copy, PartialEq, Eq)]
 pub struct Name {
     len: u8,
-    units: [u16; 31],
+    units: [u16; MAX_NAME_LEN],
 }
 
 /// Why units are no name, or not one that an entry may be given.
@@ -44,7 +44,7 @@ impl Name {
         if len > MAX_NAME_LEN {
             return Err(NameError::TooLong);
         }
-        let mut padded = [0; 31];
+        let mut padded = [0; MAX_NAME_LEN];
         padded[..len].copy_from_slice(units);
         Ok(Name {
             len: len as u8,

@@ -36,7 +36,7 @@ fn follow(path: &[u16]) -> Result<Trail<'_>, PathError>
         names: [Part {
             units: &[],
             place: 0,
-        }; 64],
+        }; MAX_NAMES],
         len: 0,
         most: 0,
     };

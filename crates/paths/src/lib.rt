@@ -35,6 +35,7 @@ pub struct Part<'a> {
 #[derive(Debug, Clone, Copy)]
 pub struct Parts<'a> {
     path: &'a [u16],
+    // One past the path's end says that no part is left: no slice begins there, so reading it answers `None` by itself.
     at: usize,
 }
 
@@ -53,7 +54,7 @@ pub enum Component {
 // Fixed memory: there is no heap, so the names are an array with a count.
 #[derive(Debug, Clone, Copy)]
 pub struct NameChain<'a> {
-    names: [Part<'a>; 64],
+    names: [Part<'a>; MAX_NAMES],
     len: usize,
     ghost few: { len ≤ 64 },
 }

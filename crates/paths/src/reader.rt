@@ -7,9 +7,9 @@ ghost use Rattle.paths.specs.Chains.{piece_of, left, Stands};
 
 use crate::{Component, Part, Parts, PathError};
 
-const SEPARATOR: u16 = 47;
+const SEPARATOR: u16 = b'/' as u16;
 
-const DOT: u16 = 46;
+const DOT: u16 = b'.' as u16;
 
 impl PathError {
     /// The refusal's number.

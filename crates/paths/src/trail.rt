@@ -9,7 +9,7 @@ use crate::{MAX_NAMES, Part, PathError};
 // Fixed memory: there is no heap, so the names are an array with a count.
 #[derive(Clone, Copy)]
 pub(super) struct Trail<'a> {
-    pub(super) names: [Part<'a>; 64],
+    pub(super) names: [Part<'a>; MAX_NAMES],
     pub(super) len: usize,
     /// The most names that there ever were.
     pub(super) most: usize,
