@@ -1,35 +1,41 @@
 //! The colour of an entry in its tree.
-ghost use Rattle.std.specs.Prelude.{◌≡◌};
+ghost use Rattle.std.specs.Prelude.{◌≡◌, ok_or};
+ghost use Rattle.fields.specs.declared.malformed.Flaw.TheVariants.{BadColor};
 ghost use Rattle.fields.specs.Kinds.{color_byte, color_of};
 
 use crate::consts;
+use crate::malformed::Flaw;
 
 /// The colour of an entry, by which the tree of a storage is kept in balance.
-#[derive(Clone, Copy)]
+#[derive(Debug, Clone, Copy, PartialEq, Eq)]
 pub enum Color {
     Red,
     Black,
 }
 
-impl Color {
-    /// The byte that stands for this colour in a record.
-    pub fn as_byte(self) -> u8
-        ensures { result ≡ color_byte self }
-    {
-        match self {
+/// The byte that stands for a colour in a record.
+impl From<Color> for u8 {
+    ghost from_gives = { λ color byte. byte ≡ color_byte color };
+
+    fn from(color: Color) -> u8 {
+        match color {
             Color::Red => consts::COLOR_RED,
             Color::Black => consts::COLOR_BLACK,
         }
     }
+}
 
-    /// The colour that a byte stands for, if it stands for one.
-    pub fn from_byte(byte: u8) -> Option<Color>
-        ensures { result ≡ color_of byte }
-    {
+/// The colour that a byte stands for, if it stands for one.
+impl TryFrom<u8> for Color {
+    type Error = Flaw;
+
+    ghost try_from_gives = { λ byte color. color ≡ ok_or (color_of byte) BadColor };
+
+    fn try_from(byte: u8) -> Result<Color, Flaw> {
         match byte {
-            consts::COLOR_RED => Some(Color::Red),
-            consts::COLOR_BLACK => Some(Color::Black),
-            _ => None,
+            consts::COLOR_RED => Ok(Color::Red),
+            consts::COLOR_BLACK => Ok(Color::Black),
+            _ => Err(Flaw::BadColor),
         }
     }
 }

@@ -5,7 +5,7 @@ ghost use Rattle.fields.specs.Offsets.{link_offset};
 use crate::consts;
 
 /// One of the three links of an entry.
-#[derive(Clone, Copy)]
+#[derive(Debug, Clone, Copy, PartialEq, Eq)]
 pub enum Link {
     Left,
     Right,

@@ -7,7 +7,7 @@ use crate::link::Link;
 use crate::timestamp::Time;
 
 /// What is wrong with a record.
-#[derive(Clone, Copy)]
+#[derive(Debug, Clone, Copy, PartialEq, Eq)]
 pub enum Flaw {
     /// The name length is over 64 bytes.
     LongName,
@@ -83,7 +83,7 @@ impl Flaw {
 }
 
 /// A record that is refused: its number, and what is wrong with it.
-#[derive(Clone, Copy)]
+#[derive(Debug, Clone, Copy, PartialEq, Eq)]
 pub struct Malformed {
     pub id: u32,
     pub flaw: Flaw,

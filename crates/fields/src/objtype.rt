@@ -1,11 +1,13 @@
 //! The type of an entry.
-ghost use Rattle.std.specs.Prelude.{◌≡◌};
+ghost use Rattle.std.specs.Prelude.{◌≡◌, ok_or};
+ghost use Rattle.fields.specs.declared.malformed.Flaw.TheVariants.{BadType};
 ghost use Rattle.fields.specs.Kinds.{type_byte, type_of, is_storage, is_stream, is_root};
 
 use crate::consts;
+use crate::malformed::Flaw;
 
 /// What an entry is.
-#[derive(Clone, Copy)]
+#[derive(Debug, Clone, Copy, PartialEq, Eq)]
 pub enum ObjType {
     Unallocated,
     Storage,
@@ -14,55 +16,52 @@ pub enum ObjType {
 }
 
 impl ObjType {
-    /// The byte that stands for this type in a record.
-    pub fn as_byte(self) -> u8
-        ensures { result ≡ type_byte self }
+    pub fn is_storage(self) -> bool
+        ensures { result ≡ is_storage self }
     {
-        match self {
+        self == ObjType::Storage
+    }
+
+    pub fn is_stream(self) -> bool
+        ensures { result ≡ is_stream self }
+    {
+        self == ObjType::Stream
+    }
+
+    pub fn is_root(self) -> bool
+        ensures { result ≡ is_root self }
+    {
+        self == ObjType::Root
+    }
+}
+
+/// The byte that stands for a type in a record.
+impl From<ObjType> for u8 {
+    ghost from_gives = { λ obj_type byte. byte ≡ type_byte obj_type };
+
+    fn from(obj_type: ObjType) -> u8 {
+        match obj_type {
             ObjType::Unallocated => consts::OBJ_TYPE_UNALLOCATED,
             ObjType::Storage => consts::OBJ_TYPE_STORAGE,
             ObjType::Stream => consts::OBJ_TYPE_STREAM,
             ObjType::Root => consts::OBJ_TYPE_ROOT,
         }
     }
+}
 
-    /// The type that a byte stands for, if it stands for one.
-    pub fn from_byte(byte: u8) -> Option<ObjType>
-        ensures { result ≡ type_of byte }
-    {
+/// The type that a byte stands for, if it stands for one.
+impl TryFrom<u8> for ObjType {
+    type Error = Flaw;
+
+    ghost try_from_gives = { λ byte obj_type. obj_type ≡ ok_or (type_of byte) BadType };
+
+    fn try_from(byte: u8) -> Result<ObjType, Flaw> {
         match byte {
-            consts::OBJ_TYPE_UNALLOCATED => Some(ObjType::Unallocated),
-            consts::OBJ_TYPE_STORAGE => Some(ObjType::Storage),
-            consts::OBJ_TYPE_STREAM => Some(ObjType::Stream),
-            consts::OBJ_TYPE_ROOT => Some(ObjType::Root),
-            _ => None,
-        }
-    }
-
-    pub fn is_storage(self) -> bool
-        ensures { result ≡ is_storage self }
-    {
-        match self {
-            ObjType::Storage => true,
-            _ => false,
-        }
-    }
-
-    pub fn is_stream(self) -> bool
-        ensures { result ≡ is_stream self }
-    {
-        match self {
-            ObjType::Stream => true,
-            _ => false,
-        }
-    }
-
-    pub fn is_root(self) -> bool
-        ensures { result ≡ is_root self }
-    {
-        match self {
-            ObjType::Root => true,
-            _ => false,
+            consts::OBJ_TYPE_UNALLOCATED => Ok(ObjType::Unallocated),
+            consts::OBJ_TYPE_STORAGE => Ok(ObjType::Storage),
+            consts::OBJ_TYPE_STREAM => Ok(ObjType::Stream),
+            consts::OBJ_TYPE_ROOT => Ok(ObjType::Root),
+            _ => Err(Flaw::BadType),
         }
     }
 }

@@ -5,7 +5,7 @@ ghost use Rattle.fields.specs.Offsets.{time_offset};
 use crate::consts;
 
 /// A time as a record has it: 100-nanosecond intervals since the beginning of 1601. Conversion is the caller's.
-#[derive(Clone, Copy)]
+#[derive(Debug, Clone, Copy, PartialEq, Eq)]
 pub struct Timestamp(pub u64);
 
 impl Timestamp {
@@ -18,7 +18,7 @@ impl Timestamp {
 }
 
 /// One of the two times of an entry.
-#[derive(Clone, Copy)]
+#[derive(Debug, Clone, Copy, PartialEq, Eq)]
 pub enum Time {
     Creation,
     Modified,

@@ -3,7 +3,7 @@ ghost use Rattle.std.specs.Prelude.{◌≡◌};
 ghost use Rattle.fields.specs.Versions.{strict};
 
 /// How closely records are held to the format when they are read.
-#[derive(Clone, Copy)]
+#[derive(Debug, Clone, Copy, PartialEq, Eq)]
 pub enum Validation {
     /// What can be put right is put right: a name without its null, a root's name, and fields that should be zero.
     Permissive,
@@ -15,9 +15,6 @@ impl Validation {
     pub fn is_strict(self) -> bool
         ensures { result ≡ strict self }
     {
-        match self {
-            Validation::Permissive => false,
-            Validation::Strict => true,
-        }
+        self == Validation::Strict
     }
 }
