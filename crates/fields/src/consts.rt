@@ -33,7 +33,7 @@ pub const STREAM_LEN_OFFSET: usize = 120;
 /// The length of a name field, in units: 31 for a name, one for the null after it.
 pub const NAME_FIELD_UNITS: usize = 32;
 /// The length of a name field, in bytes.
-pub const NAME_FIELD_LEN: u16 = 64;
+pub const NAME_FIELD_LEN: usize = 64;
 
 /// The root's name, `Root Entry`, as units.
 pub const ROOT_DIR_NAME: [u16; 10] = [82, 111, 111, 116, 32, 69, 110, 116, 114, 121];

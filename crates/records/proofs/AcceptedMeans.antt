@@ -1,5 +1,5 @@
 -- What a record means that keeps the rules.
-use Rattle.std.proofs.Common.{◌≡◌, ℕ, Bool, true, false, cond, not, ◌||◌, eqb, List, Some, None, Ok, Err, sym, refl, subst, arith}
+use Rattle.std.proofs.Common.{◌≡◌, ℕ, Bool, true, false, cond, not, ◌||◌, eqb, List, Some, None, Ok, Err, Result, MatchResult, sym, refl, subst, arith}
 use Rattle.std.proofs.lemmas.Bool.{eqb-true}
 use Rattle.names.specs.Names.{name_of}
 use Rattle.fields.specs.declared.objtype.ObjType.TheVariants.{Unallocated, Storage, Stream, Root}
@@ -11,7 +11,7 @@ use Rattle.records.specs.declared.direntry.DirEntry.{DirEntry}
 use Rattle.records.specs.Bytes.{byte_at}
 use Rattle.fields.specs.Kinds.{type_byte, color_byte, is_root}
 use Rattle.records.specs.Fields.{name_in, kind_in, color_in}
-use Rattle.records.specs.Rules.{first, root_units, rules, meaning, reads}
+use Rattle.records.specs.Rules.{about, first, root_units, rules, meaning, reads}
 use Rattle.records.specs.Means.{Means}
 use Rattle.records.proofs.KeptRules.{Holds, judged_ok, kept_none, judged_err, by_name}
 
@@ -58,10 +58,12 @@ module _ (bs : List ℕ) (v : Version) (m : Validation) where
   }
 
   -- what reading answers
-  pub accepted : (e : DirEntry) → Ok e ≡ reads bs v m → (first (rules bs v m) ≡ None) × Means bs v e
+  accepted : (e : DirEntry) → Ok e ≡ reads bs v m → (first (rules bs v m) ≡ None) × Means bs v e
   accepted e q =
       let j = judged_ok (rules bs v m) (meaning bs v) e (sym q) in
       (kept_none (rules bs v m) j.0, subst (Means bs v) j.1 (means_kept (by_name bs v m j.0)))
 
-  pub refused : (f : Flaw) → Err f ≡ reads bs v m → first (rules bs v m) ≡ Some f
-  refused f q = judged_err (rules bs v m) (meaning bs v) f (sym q)
+  pub answered : (n : ℕ) (r : Result DirEntry Flaw) → r ≡ reads bs v m →
+      MatchResult (about n r) (λ e. (first (rules bs v m) ≡ None) × Means bs v e) (λ x. (x.id ≡ n) × (first (rules bs v m) ≡ Some x.flaw))
+  answered n (Ok e) q = accepted e q
+  answered n (Err f) q = (refl, judged_err (rules bs v m) (meaning bs v) f (sym q))

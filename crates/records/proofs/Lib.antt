@@ -1,4 +1,6 @@
 pub mod NumbersAt
+pub mod LowFirst
+pub mod MadeFromFn
 pub mod UnitPairs
 pub mod WritesInOrder
 pub mod JudgedInSteps

@@ -1,15 +1,14 @@
 -- Units that bytes spell, two bytes each.
-use Rattle.std.proofs.Common.{◌≡◌, ℕ, zero, suc, ◌+◌, ◌-◌, ◌*◌, ◌<◌, ◌≤◌, true, false, cond, not, ltb, List, [], ◌∷◌, length, get_or, take, Ok, Err, Result, sym, refl, ap, ◌∙◌, arith}
+use Rattle.std.proofs.Common.{◌≡◌, ℕ, zero, suc, ◌+◌, ◌*◌, ◌<◌, ◌≤◌, Bool, true, false, cond, not, ltb, List, [], ◌∷◌, length, get_or, take, Ok, Err, Result, sym, refl, ap, ◌∙◌, arith}
 use Rattle.std.proofs.lemmas.Bool.{le-ltb}
 use Rattle.names.specs.declared.name.Name.{Name}
 use Rattle.names.specs.declared.name.NameError.{NameError}
 use Rattle.names.specs.declared.name.NameError.TheVariants.{TooLong}
 use Rattle.names.specs.Names.{name_of}
 use Rattle.names.specs.Units.{well_formed}
-use Rattle.fields.specs.declared.malformed.Flaw.{Flaw}
 use Rattle.fields.specs.declared.malformed.Flaw.TheVariants.{BadUtf16}
 use Rattle.records.specs.Steps.{spell_step}
-use Rattle.std.proofs.lemmas.List.{take-take, length-take-le, ext_get_or, get_or-take}
+use Rattle.std.proofs.lemmas.List.{take-take, length-take-le, ext_get_or}
 use Rattle.records.specs.Bytes.{number, part, u16_at, units_of}
 use Rattle.records.proofs.NumbersAt.{u16_at_bytes}
 
@@ -35,44 +34,35 @@ take_units (suc n) [] = ap (λ m. units_of (take m [])) (sym (twice_suc n))
 take_units (suc n) (x ∷ []) = ap (λ m. units_of (take m (x ∷ []))) (sym (twice_suc n))
 take_units (suc n) (x ∷ y ∷ xs) = ap (λ us. number (x ∷ y ∷ []) ∷ us) (take_units n xs) ∙ ap (λ m. units_of (take m (x ∷ y ∷ xs))) (sym (twice_suc n))
 
--- the number of two bytes of a front
-u16_front : (n : ℕ) (bs : List ℕ) (at : ℕ) → at + 2 ≤ n → n ≤ length bs → u16_at (take n bs) at ≡ u16_at bs at
-u16_front n bs at h l =
-    let t = length-take-le n bs l in
-    let a = get_or-take n bs at 0 (omega arith) in
-    let b = get_or-take n bs (at + 1) 0 (omega arith) in
-    let x = u16_at_bytes (take n bs) at (omega arith) in
-    let y = u16_at_bytes bs at (omega arith) in
-    omega arith
-
--- the units of the name field, each read from its place
-pub units_read : (bs us : List ℕ) → length bs ≡ 128 → length us ≡ 32 → ((k : ℕ) → k < 32 → get_or us k 0 ≡ u16_at bs (2 * k)) → us ≡ units_of (part 0 64 bs)
+-- units, each read from its place in their bytes
+pub units_read : (bs us : List ℕ) → length bs ≡ 64 → length us ≡ 32 → ((k : ℕ) → k < 32 → get_or us k 0 ≡ get_or bs (2 * k) 0 + get_or bs (2 * k + 1) 0 * 256) → us ≡ units_of bs
 units_read bs us l n f =
-    let t : length (take 64 bs) ≡ 64 = length-take-le 64 bs (omega arith) in
-    let u : length (units_of (take 64 bs)) ≡ 32 = length_units 32 (take 64 bs) t in
-    ext_get_or 0 us (units_of (take 64 bs)) (n ∙ sym u)
-    (λ k h. f k (omega arith) ∙ sym (u16_front 64 bs (2 * k) (omega arith) (omega arith)) ∙ sym (get_or_units (take 64 bs) k (omega arith)))
+    let u : length (units_of bs) ≡ 32 = length_units 32 bs l in
+    ext_get_or 0 us (units_of bs) (n ∙ sym u)
+    (λ k h. f k (omega arith) ∙ u16_at_bytes bs (2 * k) (omega arith) ∙ sym (get_or_units bs k (omega arith)))
 
 -- the first of them
-pub units_front : (bs us : List ℕ) (n : ℕ) → n ≤ 31 → us ≡ units_of (part 0 64 bs) → take (n - 0) us ≡ units_of (part 0 (2 * n) bs)
-units_front bs us n h e =
-    let z : n - 0 ≡ n = omega arith in
-    rw (z, e) (take_units n (take 64 bs) ∙ ap units_of (take-take (2 * n) 64 bs (omega arith)))
+units_front : (bs us : List ℕ) (n : ℕ) → n ≤ 31 → us ≡ units_of (part 0 64 bs) → take n us ≡ units_of (part 0 (2 * n) bs)
+units_front bs us n h e = rw e (take_units n (take 64 bs) ∙ ap units_of (take-take (2 * n) 64 bs (omega arith)))
 
 -- the name that the first of them spell, or none
-pub spell_ok : (bs us : List ℕ) (n : ℕ) (name : Name) → n ≤ 31 → length bs ≡ 128 → us ≡ units_of (part 0 64 bs) → true ≡ well_formed (take (n - 0) us) → Ok name ≡ cond (ltb 31 (length (take (n - 0) us))) (Err TooLong) (Ok (name_of (take (n - 0) us))) → ◌≡◌ {A = Result Name Flaw} (Ok name) (spell_step bs n)
-spell_ok bs us n name h l e w q =
-    let f = units_front bs us n h e in
-    let k : length (units_of (part 0 (2 * n) bs)) ≡ n = length_units n (take (2 * n) bs) (length-take-le (2 * n) bs (omega arith)) in
-    let short : ltb 31 (length (units_of (part 0 (2 * n) bs))) ≡ false = le-ltb 31 (length (units_of (part 0 (2 * n) bs))) (omega arith) in
-    let r : Ok name ≡ cond (ltb 31 (length (units_of (part 0 (2 * n) bs)))) (Err TooLong) (Ok (name_of (units_of (part 0 (2 * n) bs)))) = rw f at q in
-    let m : ◌≡◌ {A = Result Name NameError} (Ok name) (Ok (name_of (units_of (part 0 (2 * n) bs)))) = rw short at r in
-    let i : name ≡ name_of (units_of (part 0 (2 * n) bs)) = cc in
-    let v : true ≡ well_formed (units_of (part 0 (2 * n) bs)) = rw f at w in
-    ap Ok i ∙ ap (λ b. cond (not b) (Err BadUtf16) (Ok (name_of (units_of (part 0 (2 * n) bs))))) v
+module _ (bs us : List ℕ) (n : ℕ) (h : n ≤ 31) (e : us ≡ units_of (part 0 64 bs)) where
+  spelt : List ℕ
+  spelt = units_of (part 0 (2 * n) bs)
 
-pub spell_bad : (bs us : List ℕ) (n : ℕ) → n ≤ 31 → us ≡ units_of (part 0 64 bs) → false ≡ well_formed (take (n - 0) us) → ◌≡◌ {A = Result Name Flaw} (Err BadUtf16) (spell_step bs n)
-spell_bad bs us n h e w =
-    let f = units_front bs us n h e in
-    let v : false ≡ well_formed (units_of (part 0 (2 * n) bs)) = rw f at w in
-    ap (λ b. cond (not b) (Err BadUtf16) (Ok (name_of (units_of (part 0 (2 * n) bs))))) v
+  spell_by : (b : Bool) → b ≡ well_formed (take n us) → cond (not b) (Err BadUtf16) (Ok (name_of spelt)) ≡ spell_step bs n
+  unfolding spelt
+  spell_by b w = ap (λ t. cond (not t) (Err BadUtf16) (Ok (name_of spelt))) (w ∙ ap well_formed (units_front bs us n h e))
+
+  pub spell_ok : (name : Name) (r : Result Name NameError) → length us ≡ 32 → true ≡ well_formed (take n us) → r ≡ cond (ltb 31 (length (take n us))) (Err TooLong) (Ok (name_of (take n us))) → r ≡ Ok name → Ok name ≡ spell_step bs n
+  unfolding spelt
+  spell_ok name r l w q o =
+      let f = units_front bs us n h e in
+      let k : length (take n us) ≡ n = length-take-le n us (omega arith) in
+      let short : ltb 31 (length (take n us)) ≡ false = le-ltb 31 (length (take n us)) (omega arith) in
+      let m : ◌≡◌ {A = Result Name NameError} (Ok name) (Ok (name_of (take n us))) = sym o ∙ q ∙ ap (λ b. cond b (Err TooLong) (Ok (name_of (take n us)))) short in
+      let i : name ≡ name_of (take n us) = cc in
+      ap Ok (i ∙ ap name_of f) ∙ spell_by true w
+
+  pub spell_bad : false ≡ well_formed (take n us) → Err BadUtf16 ≡ spell_step bs n
+  spell_bad w = spell_by false w

@@ -1,45 +1,28 @@
 -- Writes that follow one another: what stands before the end of each.
-use Rattle.std.proofs.Common.{◌≡◌, ℕ, ◌+◌, ◌-◌, ◌*◌, ◌<◌, ◌≤◌, ◌⊎◌, List, [], ◌∷◌, ◌++◌, length, get_or, take, replicate, sym, refl, ap, ◌∙◌, subst, inl, inr, arith}
-use Rattle.std.proofs.lemmas.List.{append_assoc, take_all, take_more, length-append, length-replicate, get_or_append_left, get_or-append_right, get_or-replicate, get_or_past}
-use Rattle.std.proofs.lemmas.Bool.{cases_lt}
+use Rattle.std.proofs.Common.{◌≡◌, ℕ, zero, suc, ◌+◌, ◌-◌, ◌*◌, ◌<◌, ◌≤◌, List, [], ◌∷◌, ◌++◌, length, get_or, take, drop, replicate, sym, refl, ap, ap₂, ◌∙◌, arith}
+use Rattle.std.proofs.lemmas.List.{append_assoc, take_all, take_more, take-append-drop, drop-drop, drop-replicate, length-append, length-replicate}
 use Rattle.names.specs.Padding.{padded}
 use Rattle.records.specs.Bytes.{bytes_of, unit_bytes}
 use Rattle.records.specs.Writing.{name_bytes}
 
--- two writes, the second straight after the first
-pub after : (x y z p q : List ℕ) (a b c : ℕ) → take b y ≡ take a x ++ p → take c z ≡ take b y ++ q → take c z ≡ take a x ++ (p ++ q)
-after x y z p q a b c e f = f ∙ ap (λ l. l ++ q) e ∙ append_assoc (take a x) p q
+-- a write, and what follows straight after it
+pub after : (x y z p p' q : List ℕ) (a b c : ℕ) → take b y ≡ take a x ++ p → p ≡ p' → take c z ≡ take b y ++ q → take c z ≡ take a x ++ (p' ++ q)
+after x y z p p' q a b c e w f = f ∙ ap (λ l. l ++ q) (e ∙ ap (λ l. take a x ++ l) w) ∙ append_assoc (take a x) p' q
 
-pub after_3 : (x y z w p q r : List ℕ) (a b c d : ℕ) → take b y ≡ take a x ++ p → take c z ≡ take b y ++ q → take d w ≡ take c z ++ r → take d w ≡ take a x ++ (p ++ (q ++ r))
-after_3 x y z w p q r a b c d e f g = after x y w p (q ++ r) a b d e (after y z w q r b c d f g)
-
-pub after_4 : (x y z w u p q r s : List ℕ) (a b c d i : ℕ) → take b y ≡ take a x ++ p → take c z ≡ take b y ++ q → take d w ≡ take c z ++ r → take i u ≡ take d w ++ s → take i u ≡ take a x ++ (p ++ (q ++ (r ++ s)))
-after_4 x y z w u p q r s a b c d i e f g h = after x y u p (q ++ (r ++ s)) a b i e (after_3 y z w u q r s b c d i f g h)
-
--- name length, type and colour
-pub head_to : (x y z us vs : List ℕ) (k k' l l' : ℕ) → us ≡ vs → k ≡ k' → l ≡ l' → take 66 y ≡ take 64 x ++ bytes_of 2 (2 * (length us + 1)) → take 68 z ≡ take 66 y ++ (k ∷ l ∷ []) → take 68 z ≡ take 64 x ++ (bytes_of 2 (2 * (length vs + 1)) ++ (k' ∷ l' ∷ []))
-head_to x y z us vs k k' l l' q r s e f =
-    after x y z (bytes_of 2 (2 * (length us + 1))) (k ∷ l ∷ []) 64 66 68 e f ∙ ap (λ ws. take 64 x ++ (bytes_of 2 (2 * (length ws + 1)) ++ (k ∷ l ∷ []))) q
-    ∙ ap (λ n. take 64 x ++ (bytes_of 2 (2 * (length vs + 1)) ++ (n ∷ l ∷ []))) r ∙ ap (λ n. take 64 x ++ (bytes_of 2 (2 * (length vs + 1)) ++ (k' ∷ n ∷ []))) s
+-- the last write
+pub last : (x y p p' : List ℕ) (a b : ℕ) → take b y ≡ take a x ++ p → p ≡ p' → take b y ≡ take a x ++ p'
+last x y p p' a b e w = e ∙ ap (λ l. take a x ++ l) w
 
 -- the whole record
 pub whole : (a b c d e n h l s p : List ℕ) → length e ≡ 128 → take 64 a ≡ n → take 68 b ≡ take 64 a ++ h → take 80 c ≡ take 68 b ++ l → take 116 d ≡ take 80 c ++ s → take 128 e ≡ take 116 d ++ p → e ≡ n ++ (h ++ (l ++ (s ++ p)))
 whole a b c d e n h l s p k q0 q1 q2 q3 q4 =
-    sym (take_all 128 e (omega arith)) ∙ after_4 a b c d e h l s p 64 68 80 116 128 q1 q2 q3 q4 ∙ ap (λ z. z ++ (h ++ (l ++ (s ++ p)))) q0
+    sym (take_all 128 e (omega arith))
+    ∙ after a b e h h (l ++ (s ++ p)) 64 68 128 q1 refl (after b c e l l (s ++ p) 68 80 128 q2 refl (after c d e s s p 80 116 128 q3 refl q4))
+    ∙ ap (λ z. z ++ (h ++ (l ++ (s ++ p)))) q0
 
 pub unit_bytes-append : (us vs : List ℕ) → unit_bytes (us ++ vs) ≡ unit_bytes us ++ unit_bytes vs
 unit_bytes-append [] vs = refl
 unit_bytes-append (u ∷ us) vs = ap (λ l. bytes_of 2 u ++ l) (unit_bytes-append us vs)
-
--- past a name there are nulls
-get_or-padded : (us : List ℕ) (i : ℕ) → i < 32 → length us ≤ 31 → get_or (padded 32 us) i 0 ≡ get_or us i 0
-get_or-padded us i h few = by_end (cases_lt i (length us))
-  where
-    by_end : (i < length us) ⊎ (length us ≤ i) → get_or (padded 32 us) i 0 ≡ get_or us i 0
-    by_end (inl l) = get_or_append_left us (replicate (32 - length us) 0) 0 i l
-    by_end (inr l) =
-        get_or-append_right us (replicate (32 - length us) 0) (length us) i 0 refl l ∙ get_or-replicate (32 - length us) (i - length us) 0 0 (omega arith)
-        ∙ sym (get_or_past us i 0 l)
 
 pub length-padded : (us : List ℕ) → length us ≤ 31 → length (padded 32 us) ≡ 32
 length-padded us few =
@@ -47,16 +30,26 @@ length-padded us few =
     let b : length (replicate {A = ℕ} (32 - length us) 0) ≡ 32 - length us = length-replicate (32 - length us) 0 in
     omega arith
 
--- one more unit
-pub unit_more : (us x y : List ℕ) (i u : ℕ) → i < 32 → length us ≤ 31 → u ≡ get_or us i 0 → take (2 * i) x ≡ unit_bytes (take i (padded 32 us)) → take (2 * i + 2) y ≡ take (2 * i) x ++ bytes_of 2 u → take (2 * (i + 1)) y ≡ unit_bytes (take (i + 1) (padded 32 us))
-unit_more us x y i u h few q inv e =
+nulls : (n : ℕ) → unit_bytes (replicate n 0) ≡ replicate (2 * n) 0
+nulls zero = refl
+nulls (suc n) = let t : 2 * suc n ≡ suc (suc (2 * n)) = omega arith in ap (λ l. 0 ∷ 0 ∷ l) (nulls n) ∙ ap (λ k. replicate k 0) (sym t)
+
+-- one more unit, and nulls behind it
+pub unit_more : (us x y p : List ℕ) (i : ℕ) → i < length us → length us ≤ 31 → p ≡ bytes_of 2 (get_or us i 0) →
+    (take (2 * i) x ≡ unit_bytes (take i us)) × (drop (2 * i) x ≡ replicate (64 - 2 * i) 0) →
+    take (2 * i + 2) y ≡ take (2 * i) x ++ p → drop (2 * i + 2) y ≡ drop (2 * i + 2) x →
+    (take (2 * (i + 1)) y ≡ unit_bytes (take (i + 1) us)) × (drop (2 * (i + 1)) y ≡ replicate (64 - 2 * (i + 1)) 0)
+unit_more us x y p i h few q inv e f =
     let n : 2 * (i + 1) ≡ 2 * i + 2 = omega arith in
-    let l = length-padded us few in
-    let t : take (i + 1) (padded 32 us) ≡ take i (padded 32 us) ++ (u ∷ []) = take_more (padded 32 us) i 0 (omega arith) ∙ ap (λ v. take i (padded 32 us) ++ (v ∷ [])) (get_or-padded us i h few ∙ sym q) in
-    ap (λ m. take m y) n ∙ e ∙ ap (λ z. z ++ bytes_of 2 u) inv ∙ sym (unit_bytes-append (take i (padded 32 us)) (u ∷ [])) ∙ ap unit_bytes (sym t)
+    let m : 64 - 2 * i - 2 ≡ 64 - 2 * (i + 1) = omega arith in
+    let w = last x y p (bytes_of 2 (get_or us i 0)) (2 * i) (2 * i + 2) e q in (
+      ap (λ k. take k y) n ∙ w ∙ ap (λ z. z ++ bytes_of 2 (get_or us i 0)) inv.0 ∙ sym (unit_bytes-append (take i us) (get_or us i 0 ∷ [])) ∙ ap unit_bytes (sym (take_more us i 0 h)),
+      ap (λ k. drop k y) n ∙ f ∙ sym (drop-drop 2 (2 * i) x) ∙ ap (drop 2) inv.1 ∙ drop-replicate 2 (64 - 2 * i) 0 ∙ ap (λ k. replicate k 0) m,
+    )
 
 -- all of them
-pub units_all : (us x : List ℕ) (i : ℕ) → length us ≤ 31 → i ≡ 32 → take (2 * i) x ≡ unit_bytes (take i (padded 32 us)) → take 64 x ≡ name_bytes us
+pub units_all : (us x : List ℕ) (i : ℕ) → length us ≤ 31 → i ≡ length us → (take (2 * i) x ≡ unit_bytes (take i us)) × (drop (2 * i) x ≡ replicate (64 - 2 * i) 0) → x ≡ name_bytes us
 units_all us x i few q inv =
-    let l = length-padded us few in
-    subst (λ k. take (2 * k) x ≡ unit_bytes (take k (padded 32 us))) q inv ∙ ap unit_bytes (take_all 32 (padded 32 us) (omega arith))
+    let k : 64 - 2 * i ≡ 2 * (32 - length us) = omega arith in
+    sym (take-append-drop (2 * i) x) ∙ ap₂ (λ a b. a ++ b) (inv.0 ∙ ap unit_bytes (take_all i us (omega arith))) (inv.1 ∙ ap (λ n. replicate n 0) k ∙ sym (nulls (32 - length us)))
+    ∙ sym (unit_bytes-append us (replicate (32 - length us) 0))

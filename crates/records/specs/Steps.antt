@@ -1,11 +1,12 @@
 -- The reader's way through the rules, for the contracts of its own parts: each part is judged once those before it are.
 --
 --   and_then r f                                                  the second part, where the first was read
---   count_step, spell_step, link_step, child_step, clsid_step,
---   time_step, start_step, length_step                            single fields
+--   count_step, spell_step, link_step, child_step                 single fields
+--   unset_step m same none f                                      a field that a type does not have: none is read, and
+--                                                                 Strict refuses with f what is not the same as none
 --   name_steps, head_steps, link_steps, stamp_steps, place_steps  the parts of a record
 --   entry_steps                                                   the whole record
-use Rattle.std.specs.Prelude.{ℕ, ◌*◌, cond, not, ◌&&◌, List, [], ◌∷◌, take, Ok, Err, Result, ◌==◌}
+use Rattle.std.specs.Prelude.{ℕ, ◌*◌, Bool, if◌then◌else◌, not, ◌&&◌, List, [], ◌∷◌, take, Ok, Err, Result, ok_or, ◌==◌}
 use Rattle.std.specs.Str.{bytes_eq}
 use Rattle.names.specs.declared.name.Name.{Name}
 use Rattle.names.specs.Names.{spelled, name_of}
@@ -15,21 +16,19 @@ use Rattle.fields.specs.declared.version.Version.{Version}
 use Rattle.fields.specs.declared.validate.Validation.{Validation}
 use Rattle.fields.specs.declared.link.Link.{Link}
 use Rattle.fields.specs.declared.link.Link.TheVariants.{Left, Right, Child}
-use Rattle.fields.specs.declared.timestamp.Time.{Time}
 use Rattle.fields.specs.declared.timestamp.Time.TheVariants.{Creation, Modified}
-use Rattle.fields.specs.declared.timestamp.Timestamp.{Timestamp}
 use Rattle.fields.specs.declared.malformed.Flaw.{Flaw}
-use Rattle.fields.specs.declared.malformed.Flaw.TheVariants.{BadUtf16, BadLink, StreamChild, StreamClsid, StreamTime, StorageStart, StorageLength}
+use Rattle.fields.specs.declared.malformed.Flaw.TheVariants.{BadUtf16, BadType, BadColor, BadLink, StreamChild, StreamClsid, StreamTime, StorageStart, StorageLength}
 use Rattle.records.specs.declared.direntry.DirEntry.{DirEntry}
 use Rattle.records.specs.declared.reading.Head.{Head}
 use Rattle.records.specs.declared.reading.Links.{Links}
 use Rattle.records.specs.declared.reading.Stamps.{Stamps}
 use Rattle.records.specs.declared.reading.Place.{Place}
-use Rattle.records.specs.Bytes.{part, units_of}
-use Rattle.fields.specs.Kinds.{is_storage, is_stream}
+use Rattle.records.specs.Bytes.{part, byte_at, units_of}
+use Rattle.fields.specs.Kinds.{type_of, color_of, is_storage, is_stream}
 use Rattle.fields.specs.Versions.{strict}
-use Rattle.records.specs.Fields.{name_units, kind_in, color_in, link_in, clsid_in, state_in, time_in, start_in, length_in}
-use Rattle.records.specs.Rules.{rule, judge, nil, nowhere, stray, name_rules, type_rules, title_rules, color_rules, titled}
+use Rattle.records.specs.Fields.{name_units, link_in, clsid_in, state_in, time_in, start_in, length_in}
+use Rattle.records.specs.Rules.{rule, judge, nil, nowhere, stray, name_rules, title_rules, titled}
 
 abbrev pub and_then : {A B : Type 0} → Result A Flaw → (A → Result B Flaw) → Result B Flaw
 and_then (Ok a) f = f a
@@ -47,17 +46,8 @@ link_step bs l = judge (rule (BadLink l) (stray (link_in bs l)) ∷ []) (link_in
 abbrev pub child_step : List ℕ → ObjType → Result ℕ Flaw
 child_step bs k = judge (rule StreamChild (is_stream k && not (link_in bs Child == nowhere)) ∷ rule (BadLink Child) (stray (link_in bs Child)) ∷ []) (link_in bs Child)
 
-abbrev pub clsid_step : List ℕ → ObjType → Validation → Result (List ℕ) Flaw
-clsid_step bs k m = judge (rule StreamClsid (strict m && (is_stream k && not (bytes_eq (clsid_in bs) nil))) ∷ []) (cond (is_stream k) nil (clsid_in bs))
-
-abbrev pub time_step : List ℕ → Time → ObjType → Validation → Result Timestamp Flaw
-time_step bs t k m = judge (rule (StreamTime t) (strict m && (is_stream k && not (time_in bs t == 0))) ∷ []) (record { 0 = cond (is_stream k) 0 (time_in bs t) })
-
-abbrev pub start_step : List ℕ → ObjType → Validation → Result ℕ Flaw
-start_step bs k m = judge (rule StorageStart (strict m && (is_storage k && not (start_in bs == 0))) ∷ []) (cond (is_storage k) 0 (start_in bs))
-
-abbrev pub length_step : List ℕ → ObjType → Version → Validation → Result ℕ Flaw
-length_step bs k v m = judge (rule StorageLength (strict m && (is_storage k && not (length_in bs v == 0))) ∷ []) (cond (is_storage k) 0 (length_in bs v))
+abbrev pub unset_step : {A : Type 0} → Validation → Bool → A → Flaw → Result A Flaw
+unset_step m same none f = judge (rule f (strict m && not same) ∷ []) none
 
 abbrev pub name_steps : List ℕ → Validation → Result Name Flaw
 name_steps bs m = and_then (count_step bs m) (spell_step bs)
@@ -65,9 +55,9 @@ name_steps bs m = and_then (count_step bs m) (spell_step bs)
 abbrev pub head_steps : List ℕ → Validation → Result Head Flaw
 head_steps bs m =
     and_then (name_steps bs m) (λ n.
-    and_then (judge (type_rules bs) (kind_in bs)) (λ k.
+    and_then (ok_or (type_of (byte_at bs 66)) BadType) (λ k.
     and_then (judge (title_rules k (spelled n) m) (titled k n)) (λ t.
-    and_then (judge (color_rules bs) (color_in bs)) (λ c.
+    and_then (ok_or (color_of (byte_at bs 67)) BadColor) (λ c.
     Ok (record { name = t; obj_type = k; color = c })))))
 
 abbrev pub link_steps : List ℕ → ObjType → Result Links Flaw
@@ -77,18 +67,26 @@ link_steps bs k =
     and_then (child_step bs k) (λ c.
     Ok (record { left = l; right = r; child = c }))))
 
+-- of a stream, nothing is kept
 abbrev pub stamp_steps : List ℕ → ObjType → Validation → Result Stamps Flaw
 stamp_steps bs k m =
-    and_then (clsid_step bs k m) (λ i.
-    and_then (time_step bs Creation k m) (λ c.
-    and_then (time_step bs Modified k m) (λ t.
+    if is_stream k then
+    and_then (unset_step m (bytes_eq (clsid_in bs) nil) nil StreamClsid) (λ i.
+    and_then (unset_step m (time_in bs Creation == 0) (record { 0 = 0 }) (StreamTime Creation)) (λ c.
+    and_then (unset_step m (time_in bs Modified == 0) (record { 0 = 0 }) (StreamTime Modified)) (λ t.
     Ok (record { clsid = i; creation = c; modified = t }))))
+    else
+    Ok (record { clsid = clsid_in bs; creation = record { 0 = time_in bs Creation }; modified = record { 0 = time_in bs Modified } })
 
+-- of a storage, nothing is kept
 abbrev pub place_steps : List ℕ → ObjType → Version → Validation → Result Place Flaw
 place_steps bs k v m =
-    and_then (start_step bs k m) (λ s.
-    and_then (length_step bs k v m) (λ n.
+    if is_storage k then
+    and_then (unset_step m (start_in bs == 0) 0 StorageStart) (λ s.
+    and_then (unset_step m (length_in bs v == 0) 0 StorageLength) (λ n.
     Ok (record { start = s; length = n })))
+    else
+    Ok (record { start = start_in bs; length = length_in bs v })
 
 abbrev pub entry_steps : List ℕ → Version → Validation → Result DirEntry Flaw
 entry_steps bs v m =

@@ -2,18 +2,17 @@
 ghost use Rattle.std.specs.Prelude.{◌≡◌, Some, None, MatchResult};
 ghost use Rattle.records.specs.Rules.{rules, first, reads, about};
 ghost use Rattle.records.specs.Means.{Means};
-ghost use Rattle.records.specs.Steps.{entry_steps};
 ghost use Rattle.records.specs.Entries.{fresh, blank, new_root};
 ghost use Rattle.records.specs.Writing.{written};
 
-use crate::bytes::read_u32;
-use crate::name_field::{put_name, root_name};
-use crate::reading::{read_head, read_links, read_place, read_stamps};
+use crate::bytes::put;
+use crate::name_field::{name_field, root_name};
+use crate::reading::Reader;
 use crate::writing::{put_head, put_links, put_place, put_stamps};
 use fields::color::Color;
 use fields::consts;
 use fields::consts::{DIR_ENTRY_LEN, NO_STREAM};
-use fields::malformed::{Flaw, Malformed};
+use fields::malformed::Malformed;
 use fields::objtype::ObjType;
 use fields::timestamp::Timestamp;
 use fields::validate::Validation;
@@ -103,38 +102,12 @@ impl DirEntry {
             (λ e. (first (rules bytes.now version validation) ≡ None) × Means bytes.now version e)
             (λ x. (x.id ≡ id) × (first (rules bytes.now version validation) ≡ Some x.flaw)) }
     {
-        match DirEntry::parse(bytes, version, validation) {
-            Ok(entry) => Ok(entry),
-            Err(flaw) => Err(Malformed { id, flaw }),
-        }
-    }
-
-    fn parse(
-        bytes: &[u8; DIR_ENTRY_LEN],
-        version: Version,
-        validation: Validation,
-    ) -> Result<DirEntry, Flaw>
-        ensures { result ≡ entry_steps bytes.now version validation }
-    {
-        let head = read_head(bytes, validation)?;
-        let links = read_links(bytes, head.obj_type)?;
-        let stamps = read_stamps(bytes, head.obj_type, validation)?;
-        let place = read_place(bytes, head.obj_type, version, validation)?;
-        let clsid = stamps.clsid;
-        Ok(DirEntry {
-            name: head.name,
-            obj_type: head.obj_type,
-            color: head.color,
-            left_sibling: links.left,
-            right_sibling: links.right,
-            child: links.child,
-            clsid,
-            state_bits: read_u32(bytes, consts::STATE_BITS_OFFSET),
-            creation_time: stamps.creation,
-            modified_time: stamps.modified,
-            start_sector: place.start,
-            stream_len: place.length,
-        })
+        let reader = Reader {
+            bytes,
+            version,
+            validation,
+        };
+        reader.entry().map_err(|flaw| Malformed { id, flaw })
     }
 
     /// The record of the entry.
@@ -142,7 +115,7 @@ impl DirEntry {
         ensures { result ≡ written self.now }
     {
         let mut bytes = [0; DIR_ENTRY_LEN];
-        put_name(&mut bytes, self.name.units());
+        put(&mut bytes, consts::NAME_OFFSET, &name_field(&self.name));
         put_head(&mut bytes, self);
         put_links(&mut bytes, self);
         put_stamps(&mut bytes, self);

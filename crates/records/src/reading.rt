@@ -1,13 +1,10 @@
 //! The parts of a record, read one after the other.
 ghost use Rattle.std.specs.Prelude.{◌≡◌};
-ghost use Rattle.std.specs.Str.{bytes_eq};
-ghost use Rattle.fields.specs.Versions.{cut};
-ghost use Rattle.records.specs.Fields.{kind_in, color_in, clsid_in};
-ghost use Rattle.records.specs.Rules.{judge, nil, type_rules, color_rules};
-ghost use Rattle.records.specs.Steps.{link_step, child_step, clsid_step, time_step, start_step, length_step, head_steps, link_steps, stamp_steps, place_steps};
+ghost use Rattle.records.specs.Fields.{time_in, length_in};
+ghost use Rattle.records.specs.Steps.{unset_step, link_step, child_step, head_steps, link_steps, stamp_steps, place_steps, entry_steps};
 
-use crate::bytes::{read_u32, read_u64};
-use crate::name_field::{read_name, settle_name};
+use crate::bytes::part;
+use crate::direntry::DirEntry;
 use fields::color::Color;
 use fields::consts;
 use fields::consts::{DIR_ENTRY_LEN, MAX_REGULAR_STREAM_ID, NO_STREAM};
@@ -46,194 +43,146 @@ pub struct Place {
     pub length: u64,
 }
 
-fn read_type(bytes: &[u8; DIR_ENTRY_LEN]) -> Result<ObjType, Flaw>
-    ensures { result ≡ judge (type_rules bytes.now) (kind_in bytes.now) }
-{
-    match ObjType::from_byte(bytes[consts::OBJ_TYPE_OFFSET]) {
-        Some(obj_type) => Ok(obj_type),
-        None => Err(Flaw::BadType),
+/// A record to be read, the version of its file, and how closely it is held to the format.
+#[derive(Clone, Copy)]
+pub struct Reader<'a> {
+    pub bytes: &'a [u8; DIR_ENTRY_LEN],
+    pub version: Version,
+    pub validation: Validation,
+}
+
+impl Reader<'_> {
+    /// What a field gives that the entry's type does not have: `none`, but Strict refuses another value there.
+    fn unset<T: PartialEq + Copy>(&self, field: T, none: T, flaw: Flaw) -> Result<T, Flaw>
+        ensures { result ≡ unset_step self.now.validation (T.eq field none) none flaw }
+    {
+        if self.validation.is_strict() && field != none {
+            Err(flaw)
+        } else {
+            Ok(none)
+        }
     }
-}
 
-fn read_color(bytes: &[u8; DIR_ENTRY_LEN]) -> Result<Color, Flaw>
-    ensures { result ≡ judge (color_rules bytes.now) (color_in bytes.now) }
-{
-    match Color::from_byte(bytes[consts::COLOR_OFFSET]) {
-        Some(color) => Ok(color),
-        None => Err(Flaw::BadColor),
+    fn head(&self) -> Result<Head, Flaw>
+        ensures { result ≡ head_steps self.now.bytes.now self.now.validation }
+    {
+        let name = self.name()?;
+        let obj_type = ObjType::try_from(self.bytes[consts::OBJ_TYPE_OFFSET])?;
+        let name = self.title(name, obj_type)?;
+        let color = Color::try_from(self.bytes[consts::COLOR_OFFSET])?;
+        Ok(Head {
+            name,
+            obj_type,
+            color,
+        })
     }
-}
 
-pub fn read_head(bytes: &[u8; DIR_ENTRY_LEN], validation: Validation) -> Result<Head, Flaw>
-    ensures { result ≡ head_steps bytes.now validation }
-{
-    let name = read_name(bytes, validation)?;
-    let obj_type = read_type(bytes)?;
-    let name = settle_name(name, obj_type, validation)?;
-    let color = read_color(bytes)?;
-    Ok(Head {
-        name,
-        obj_type,
-        color,
-    })
-}
-
-fn read_link(bytes: &[u8; DIR_ENTRY_LEN], link: Link) -> Result<u32, Flaw>
-    ensures { result ≡ link_step bytes.now link }
-{
-    let id = read_u32(bytes, link.offset());
-    if id > MAX_REGULAR_STREAM_ID && id != NO_STREAM {
-        Err(Flaw::BadLink(link))
-    } else {
-        Ok(id)
+    fn link(&self, link: Link) -> Result<u32, Flaw>
+        ensures { result ≡ link_step self.now.bytes.now link }
+    {
+        let id = u32::from_le_bytes(part(self.bytes, link.offset()));
+        if id > MAX_REGULAR_STREAM_ID && id != NO_STREAM {
+            Err(Flaw::BadLink(link))
+        } else {
+            Ok(id)
+        }
     }
-}
 
-/// A stream has no child.
-fn read_child(bytes: &[u8; DIR_ENTRY_LEN], obj_type: ObjType) -> Result<u32, Flaw>
-    ensures { result ≡ child_step bytes.now obj_type }
-{
-    if obj_type.is_stream() && read_u32(bytes, consts::CHILD_OFFSET) != NO_STREAM {
-        return Err(Flaw::StreamChild);
+    /// A stream has no child.
+    fn child(&self, obj_type: ObjType) -> Result<u32, Flaw>
+        ensures { result ≡ child_step self.now.bytes.now obj_type }
+    {
+        let id = u32::from_le_bytes(part(self.bytes, consts::CHILD_OFFSET));
+        if obj_type.is_stream() && id != NO_STREAM {
+            return Err(Flaw::StreamChild);
+        }
+        self.link(Link::Child)
     }
-    read_link(bytes, Link::Child)
-}
 
-pub fn read_links(bytes: &[u8; DIR_ENTRY_LEN], obj_type: ObjType) -> Result<Links, Flaw>
-    ensures { result ≡ link_steps bytes.now obj_type }
-{
-    let left = read_link(bytes, Link::Left)?;
-    let right = read_link(bytes, Link::Right)?;
-    let child = read_child(bytes, obj_type)?;
-    Ok(Links { left, right, child })
-}
-
-/// The 16 bytes of the CLSID.
-fn copy_clsid(bytes: &[u8; DIR_ENTRY_LEN]) -> [u8; 16]
-    ensures { result ≡ clsid_in bytes.now }
-{
-    let mut clsid = [0; 16];
-    clsid.copy_from_slice(&bytes[consts::CLSID_OFFSET..consts::STATE_BITS_OFFSET]);
-    clsid
-}
-
-fn is_nil(clsid: &[u8]) -> bool
-    ensures { result ≡ bytes_eq clsid.now nil }
-{
-    clsid == [0; 16].as_slice()
-}
-
-/// A stream has no CLSID.
-fn read_clsid(
-    bytes: &[u8; DIR_ENTRY_LEN],
-    obj_type: ObjType,
-    validation: Validation,
-) -> Result<[u8; 16], Flaw>
-    ensures { result ≡ clsid_step bytes.now obj_type validation }
-{
-    let clsid = copy_clsid(bytes);
-    if !obj_type.is_stream() {
-        return Ok(clsid);
+    fn links(&self, obj_type: ObjType) -> Result<Links, Flaw>
+        ensures { result ≡ link_steps self.now.bytes.now obj_type }
+    {
+        let left = self.link(Link::Left)?;
+        let right = self.link(Link::Right)?;
+        let child = self.child(obj_type)?;
+        Ok(Links { left, right, child })
     }
-    if validation.is_strict() && !is_nil(&clsid) {
-        Err(Flaw::StreamClsid)
-    } else {
-        Ok([0; 16])
-    }
-}
 
-/// A stream has no time.
-fn read_time(
-    bytes: &[u8; DIR_ENTRY_LEN],
-    time: Time,
-    obj_type: ObjType,
-    validation: Validation,
-) -> Result<Timestamp, Flaw>
-    ensures { result ≡ time_step bytes.now time obj_type validation }
-{
-    let stamp = read_u64(bytes, time.offset());
-    if !obj_type.is_stream() {
-        return Ok(Timestamp(stamp));
+    fn time(&self, time: Time) -> Timestamp
+        ensures { result.0 ≡ time_in self.now.bytes.now time }
+    {
+        Timestamp(u64::from_le_bytes(part(self.bytes, time.offset())))
     }
-    if validation.is_strict() && stamp != 0 {
-        Err(Flaw::StreamTime(time))
-    } else {
-        Ok(Timestamp::zero())
-    }
-}
 
-pub fn read_stamps(
-    bytes: &[u8; DIR_ENTRY_LEN],
-    obj_type: ObjType,
-    validation: Validation,
-) -> Result<Stamps, Flaw>
-    ensures { result ≡ stamp_steps bytes.now obj_type validation }
-{
-    let clsid = read_clsid(bytes, obj_type, validation)?;
-    let creation = read_time(bytes, Time::Creation, obj_type, validation)?;
-    let modified = read_time(bytes, Time::Modified, obj_type, validation)?;
-    Ok(Stamps {
-        clsid,
-        creation,
-        modified,
-    })
-}
-
-/// A storage has no start sector.
-fn read_start(
-    bytes: &[u8; DIR_ENTRY_LEN],
-    obj_type: ObjType,
-    validation: Validation,
-) -> Result<u32, Flaw>
-    ensures { result ≡ start_step bytes.now obj_type validation }
-{
-    let start = read_u32(bytes, consts::START_SECTOR_OFFSET);
-    if !obj_type.is_storage() {
-        return Ok(start);
+    /// A stream has no CLSID and no times.
+    fn stamps(&self, obj_type: ObjType) -> Result<Stamps, Flaw>
+        ensures { result ≡ stamp_steps self.now.bytes.now obj_type self.now.validation }
+    {
+        let clsid = part(self.bytes, consts::CLSID_OFFSET);
+        let creation = self.time(Time::Creation);
+        let modified = self.time(Time::Modified);
+        if !obj_type.is_stream() {
+            return Ok(Stamps {
+                clsid,
+                creation,
+                modified,
+            });
+        }
+        let none = Timestamp::zero();
+        let clsid = self.unset(clsid, [0; 16], Flaw::StreamClsid)?;
+        let creation = self.unset(creation, none, Flaw::StreamTime(Time::Creation))?;
+        let modified = self.unset(modified, none, Flaw::StreamTime(Time::Modified))?;
+        Ok(Stamps {
+            clsid,
+            creation,
+            modified,
+        })
     }
-    if validation.is_strict() && start != 0 {
-        Err(Flaw::StorageStart)
-    } else {
-        Ok(0)
-    }
-}
 
-/// What counts of a stream's length.
-fn cut_len(length: u64, version: Version) -> u64
-    ensures { result ≡ cut version length }
-{
-    length & version.stream_len_mask()
-}
-
-/// A storage has no length.
-fn read_len(
-    bytes: &[u8; DIR_ENTRY_LEN],
-    obj_type: ObjType,
-    version: Version,
-    validation: Validation,
-) -> Result<u64, Flaw>
-    ensures { result ≡ length_step bytes.now obj_type version validation }
-{
-    let len = cut_len(read_u64(bytes, consts::STREAM_LEN_OFFSET), version);
-    if !obj_type.is_storage() {
-        return Ok(len);
+    /// What counts of a stream's length.
+    fn stream_len(&self) -> u64
+        ensures { result ≡ length_in self.now.bytes.now self.now.version }
+    {
+        let length = u64::from_le_bytes(part(self.bytes, consts::STREAM_LEN_OFFSET));
+        length & self.version.stream_len_mask()
     }
-    if validation.is_strict() && len != 0 {
-        Err(Flaw::StorageLength)
-    } else {
-        Ok(0)
-    }
-}
 
-pub fn read_place(
-    bytes: &[u8; DIR_ENTRY_LEN],
-    obj_type: ObjType,
-    version: Version,
-    validation: Validation,
-) -> Result<Place, Flaw>
-    ensures { result ≡ place_steps bytes.now obj_type version validation }
-{
-    let start = read_start(bytes, obj_type, validation)?;
-    let length = read_len(bytes, obj_type, version, validation)?;
-    Ok(Place { start, length })
+    /// A storage has no start sector and no length.
+    fn place(&self, obj_type: ObjType) -> Result<Place, Flaw>
+        ensures { result ≡ place_steps self.now.bytes.now obj_type self.now.version self.now.validation }
+    {
+        let start = u32::from_le_bytes(part(self.bytes, consts::START_SECTOR_OFFSET));
+        let length = self.stream_len();
+        if !obj_type.is_storage() {
+            return Ok(Place { start, length });
+        }
+        let start = self.unset(start, 0, Flaw::StorageStart)?;
+        let length = self.unset(length, 0, Flaw::StorageLength)?;
+        Ok(Place { start, length })
+    }
+
+    /// The entry that the record means.
+    pub fn entry(&self) -> Result<DirEntry, Flaw>
+        ensures { result ≡ entry_steps self.now.bytes.now self.now.version self.now.validation }
+    {
+        let head = self.head()?;
+        let links = self.links(head.obj_type)?;
+        let stamps = self.stamps(head.obj_type)?;
+        let place = self.place(head.obj_type)?;
+        let clsid = stamps.clsid;
+        Ok(DirEntry {
+            name: head.name,
+            obj_type: head.obj_type,
+            color: head.color,
+            left_sibling: links.left,
+            right_sibling: links.right,
+            child: links.child,
+            clsid,
+            state_bits: u32::from_le_bytes(part(self.bytes, consts::STATE_BITS_OFFSET)),
+            creation_time: stamps.creation,
+            modified_time: stamps.modified,
+            start_sector: place.start,
+            stream_len: place.length,
+        })
+    }
 }

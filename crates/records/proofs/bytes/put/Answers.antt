@@ -2,5 +2,5 @@ use Rattle.std.proofs.Common.{rules}
 use Rattle.std.proofs.lemmas.Slice.{overwrites}
 use Rattle.records.proofs.bytes.put.Goals as goal
 
-pub returns : goal.returns
-returns c = search (rules, overwrites)
+pub returns-clause-rest : goal.returns-clause-rest
+returns-clause-rest g c = search (rules, overwrites)

@@ -1,6 +1,0 @@
-use Rattle.std.proofs.Common.{◌∙◌, rules}
-use Rattle.records.proofs.NumbersAt.{u64_at_bytes}
-use Rattle.records.proofs.bytes.read_u64.Goals as goal
-
-pub returns : goal.returns
-returns c = c.from_le_bytes.ensures ∙ u64_at_bytes c.args.bytes.now c.args.at (search rules)
