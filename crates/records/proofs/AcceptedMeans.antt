@@ -21,14 +21,15 @@ type_by a true c d x p q r s k = sym (q refl)
 type_by a false true d x p q r s k = sym (r refl)
 type_by a false false true x p q r s k = sym (s refl)
 type_by true false false false x p q r s k = sym (p refl)
-type_by false false false false x p q r s k = let z : ◌≡◌ {A = ℕ} 0 1 = cc in absurd (omega arith)
+type_by false false false false x p q r s k = cc
 
 color_by : (a b : Bool) (x : ℕ) → (a ≡ true → x ≡ 0) → (b ≡ true → x ≡ 1) → not (a || b) ≡ false → color_byte (cond b Black Red) ≡ x
 color_by a true x p q k = sym (q refl)
 color_by true false x p q k = sym (p refl)
-color_by false false x p q k = let z : ◌≡◌ {A = ℕ} 0 1 = cc in absurd (omega arith)
+color_by false false x p q k = cc
 
-named_by : (b : Bool) (us : List ℕ) → cond b (name_of root_units) (name_of us) ≡ name_of (cond b root_units us)
+-- the name of either list of units
+pub named_by : (b : Bool) (us : List ℕ) → cond b (name_of root_units) (name_of us) ≡ name_of (cond b root_units us)
 named_by true us = refl
 named_by false us = refl
 

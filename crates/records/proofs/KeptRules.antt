@@ -26,7 +26,7 @@ judged_ok [] x y e = (tt, cc)
 judged_ok {A} (r ∷ rs) x y e = by_test r.broken refl (judged_ok rs x y) e
   where
     by_test : (t : Bool) → r.broken ≡ t → (judge rs x ≡ Ok y → Kept rs × (x ≡ y)) → cond t (Err r.flaw) (judge rs x) ≡ Ok y → ((r.broken ≡ false) × Kept rs) × (x ≡ y)
-    by_test true q g h = let z : ◌≡◌ {A = ℕ} 0 1 = cc in absurd (omega arith)
+    by_test true q g h = cc
     by_test false q g h = let k = g h in ((q, k.0), k.1)
 
 pub kept_judged : {A : Type 0} (rs : List Rule) (x : A) → Kept rs → judge rs x ≡ Ok x
@@ -38,7 +38,7 @@ kept_none [] k = refl
 kept_none (r ∷ rs) k = rw k.0 (kept_none rs k.1)
 
 pub judged_err : {A : Type 0} (rs : List Rule) (x : A) (f : Flaw) → judge rs x ≡ Err f → first rs ≡ Some f
-judged_err [] x f e = let z : ◌≡◌ {A = ℕ} 0 1 = cc in absurd (omega arith)
+judged_err [] x f e = cc
 judged_err {A} (r ∷ rs) x f e = by_test r.broken (judged_err rs x f) e
   where
     by_test : (t : Bool) → (judge rs x ≡ Err f → first rs ≡ Some f) → cond t (Err r.flaw) (judge rs x) ≡ Err f → ◌≡◌ {A = Option Flaw} (cond t (Some r.flaw) (first rs)) (Some f)

@@ -1,5 +1,6 @@
 -- One link changed in a record.
 use Rattle.std.proofs.Common.{◌≡◌, ℕ, suc, ◌+◌, List, [], ◌∷◌, ◌++◌, length, take, drop, sym, ap, ◌∙◌, subst, ap₂, arith}
+use Rattle.std.proofs.Math.Seq.{take-append-add}
 use Rattle.std.proofs.lemmas.List.{append_assoc, drop-drop, drop_at}
 use Rattle.names.specs.Names.{spelled}
 use Rattle.fields.specs.declared.link.Link.TheVariants.{Left, Right, Child}
@@ -9,11 +10,6 @@ use Rattle.records.specs.Writing.{name_bytes, head_bytes, link_bytes, stamp_byte
 use Rattle.records.specs.Allowed.{Sized}
 use Rattle.records.specs.Laws.{RelinkedInPlace}
 use Rattle.records.proofs.WrittenStands.{field_long}
-
--- as far as into the second list
-take_past : (xs ys : List ℕ) (k : ℕ) → take (length xs + k) (xs ++ ys) ≡ xs ++ take k ys
-take_past [] ys k = let z : 0 + k ≡ k = omega arith in ap (λ n. take n ys) z
-take_past (x ∷ xs) ys k = let s : suc (length xs) + k ≡ suc (length xs + k) = omega arith in ap (λ n. take n (x ∷ xs ++ ys)) s ∙ ap (λ l. x ∷ l) (take_past xs ys k)
 
 module _ (e : DirEntry) (s : Sized e) where
   rest : List ℕ
@@ -27,7 +23,7 @@ module _ (e : DirEntry) (s : Sized e) where
   unfolding rest
   put_in k j new =
       let front : take (64 + k) (written e) ≡ name_bytes (spelled e.name) ++ take k rest =
-      subst (λ w. take (w + k) (written e) ≡ name_bytes (spelled e.name) ++ take k rest) long (take_past (name_bytes (spelled e.name)) rest k) in
+      subst (λ w. take (w + k) (written e) ≡ name_bytes (spelled e.name) ++ take k rest) long (take-append-add (name_bytes (spelled e.name)) rest k) in
       let back : drop (64 + j) (written e) ≡ drop j rest = sym (drop-drop j 64 (written e)) ∙ ap (drop j) (drop_at (name_bytes (spelled e.name)) rest 64 long) in
       sym (append_assoc (name_bytes (spelled e.name)) (take k rest) (new ++ drop j rest)) ∙ ap₂ (λ f b. f ++ (new ++ b)) (sym front) (sym back)
 

@@ -1,5 +1,5 @@
 -- What Strict reads stands in the record as it is.
-use Rattle.std.proofs.Common.{◌≡◌, ℕ, Bool, true, false, cond, eqb, List, sym, refl, ap}
+use Rattle.std.proofs.Common.{◌≡◌, ℕ, Bool, false, cond, not, ◌&&◌, eqb, List, sym, refl, ap}
 use Rattle.std.specs.Str.{bytes_eq}
 use Rattle.std.proofs.lemmas.Slice.Eq.{bytes_eq-Decides}
 use Rattle.std.proofs.lemmas.Bool.{eqb-true, not-false}
@@ -13,29 +13,29 @@ use Rattle.records.specs.Rules.{root_units, nil, meaning}
 use Rattle.records.specs.Allowed.{IsRecord, Stands}
 use Rattle.records.proofs.KeptRules.{Holds}
 use Rattle.records.proofs.AcceptedMeans.{type_kept, color_kept}
-use Rattle.records.proofs.StrictExact.{loud}
+use Rattle.records.proofs.StrictExact.{loud, kept_or_zero}
 use Rattle.records.proofs.ReadAllowed.{short, even}
 
 module _ (bs : List ℕ) (v : Version) (r : IsRecord bs) (k : Holds bs v Strict) where
-  as_it_is : {A : Type 0} (b : Bool) (x z : A) → (b ≡ true → x ≡ z) → x ≡ cond b z x
-  as_it_is true x z h = h refl
-  as_it_is false x z h = refl
+  -- a field that a type takes away, where the rule on it is kept
+  zero_there : (b : Bool) (x : ℕ) → (b && not (eqb x 0)) ≡ false → x ≡ cond b 0 x
+  zero_there b x h = sym (kept_or_zero b x 0 (λ e. eqb-true x 0 (loud b (eqb x 0) h e)))
 
   pub read_stands : Stands bs v (meaning bs v)
   read_stands = record {
     short = short bs v Strict r k;
     even = even bs v Strict r k;
-    name = sym (as_it_is (is_root (kind_in bs)) (name_of (name_in bs)) (name_of root_units) (λ h. ap name_of ((bytes_eq-Decides (name_in bs) root_units).0 (loud (is_root (kind_in bs)) (bytes_eq (name_in bs) root_units) k.root h))));
+    name = kept_or_zero (is_root (kind_in bs)) (name_of (name_in bs)) (name_of root_units) (λ h. ap name_of ((bytes_eq-Decides (name_in bs) root_units).0 (loud (is_root (kind_in bs)) (bytes_eq (name_in bs) root_units) k.root h)));
     ended = eqb-true (end_in bs) 0 (not-false (eqb (end_in bs) 0) k.ended);
     kind = sym (type_kept bs v Strict k);
     color = sym (color_kept bs v Strict k);
     left = refl;
     right = refl;
     child = refl;
-    clsid = as_it_is (is_stream (kind_in bs)) (clsid_in bs) nil (λ h. (bytes_eq-Decides (clsid_in bs) nil).0 (loud (is_stream (kind_in bs)) (bytes_eq (clsid_in bs) nil) k.clsid h));
+    clsid = sym (kept_or_zero (is_stream (kind_in bs)) (clsid_in bs) nil (λ h. (bytes_eq-Decides (clsid_in bs) nil).0 (loud (is_stream (kind_in bs)) (bytes_eq (clsid_in bs) nil) k.clsid h)));
     state = refl;
-    creation = as_it_is (is_stream (kind_in bs)) (time_in bs Creation) 0 (λ h. eqb-true (time_in bs Creation) 0 (loud (is_stream (kind_in bs)) (eqb (time_in bs Creation) 0) k.creation h));
-    modified = as_it_is (is_stream (kind_in bs)) (time_in bs Modified) 0 (λ h. eqb-true (time_in bs Modified) 0 (loud (is_stream (kind_in bs)) (eqb (time_in bs Modified) 0) k.modified h));
-    start = as_it_is (is_storage (kind_in bs)) (start_in bs) 0 (λ h. eqb-true (start_in bs) 0 (loud (is_storage (kind_in bs)) (eqb (start_in bs) 0) k.start h));
-    length = as_it_is (is_storage (kind_in bs)) (length_in bs v) 0 (λ h. eqb-true (length_in bs v) 0 (loud (is_storage (kind_in bs)) (eqb (length_in bs v) 0) k.length h));
+    creation = zero_there (is_stream (kind_in bs)) (time_in bs Creation) k.creation;
+    modified = zero_there (is_stream (kind_in bs)) (time_in bs Modified) k.modified;
+    start = zero_there (is_storage (kind_in bs)) (start_in bs) k.start;
+    length = zero_there (is_storage (kind_in bs)) (length_in bs v) k.length;
   }

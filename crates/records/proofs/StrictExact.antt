@@ -2,7 +2,7 @@
 use Rattle.std.proofs.Common.{◌≡◌, ℕ, ◌%◌, Bool, true, false, cond, not, ◌&&◌, ◌||◌, eqb, List, Ok, sym, refl, ap, ◌∙◌, arith}
 use Rattle.std.specs.Str.{bytes_eq}
 use Rattle.std.proofs.lemmas.Slice.Eq.{bytes_eq-Decides}
-use Rattle.std.proofs.lemmas.Bool.{le-ltb, eq-eqb, not-false}
+use Rattle.std.proofs.lemmas.Bool.{le-ltb, eq-eqb, not-true, not-false}
 use Rattle.names.specs.Names.{spelled, name_of, allowed}
 use Rattle.names.specs.Units.{well_formed}
 use Rattle.fields.specs.declared.objtype.ObjType.{ObjType}
@@ -28,7 +28,7 @@ quiet false t h = refl
 
 pub loud : (b t : Bool) → (b && not t) ≡ false → b ≡ true → t ≡ true
 loud true t h e = not-false t h
-loud false t h e = let z : ◌≡◌ {A = ℕ} 0 1 = cc in absurd (omega arith)
+loud false t h e = cc
 
 -- the type and the colour of their own bytes
 kind_from : ℕ → ObjType
@@ -66,7 +66,7 @@ color_fits Red = refl
 color_fits Black = refl
 
 -- a field that is taken away only where it is zero already
-kept_or_zero : {A : Type 0} (b : Bool) (x z : A) → (b ≡ true → x ≡ z) → cond b z x ≡ x
+pub kept_or_zero : {A : Type 0} (b : Bool) (x z : A) → (b ≡ true → x ≡ z) → cond b z x ≡ x
 kept_or_zero true x z h = sym (h refl)
 kept_or_zero false x z h = refl
 
@@ -88,11 +88,7 @@ module _ (bs : List ℕ) (v : Version) (e : DirEntry) (s : Stands bs v e) (a : A
   of_kind p t h = ap (λ k. p k && not t) kind_is ∙ quiet (p e.obj_type) t h
 
   other_name : (not (is_root e.obj_type) && not (allowed (name_in bs))) ≡ false
-  other_name = quiet (not (is_root e.obj_type)) (allowed (name_in bs)) (λ h. ap allowed units_are ∙ a.other (not_is (is_root e.obj_type) h))
-    where
-      not_is : (b : Bool) → not b ≡ true → b ≡ false
-      not_is true h = let z : ◌≡◌ {A = ℕ} 0 1 = cc in absurd (omega arith)
-      not_is false h = refl
+  other_name = quiet (not (is_root e.obj_type)) (allowed (name_in bs)) (λ h. ap allowed units_are ∙ a.other (not-true (is_root e.obj_type) h))
 
   rules_hold : Holds bs v Strict
   rules_hold = record {
