@@ -8,7 +8,6 @@ ghost use Rattle.records.specs.Writing.{written};
 use crate::bytes::put;
 use crate::name_field::{name_field, root_name};
 use crate::reading::Reader;
-use crate::writing::{put_head, put_links, put_place, put_stamps};
 use fields::color::Color;
 use fields::consts;
 use fields::consts::{DIR_ENTRY_LEN, NO_STREAM};
@@ -116,10 +115,10 @@ impl DirEntry {
     {
         let mut bytes = [0; DIR_ENTRY_LEN];
         put(&mut bytes, consts::NAME_OFFSET, &name_field(&self.name));
-        put_head(&mut bytes, self);
-        put_links(&mut bytes, self);
-        put_stamps(&mut bytes, self);
-        put_place(&mut bytes, self);
+        self.put_head(&mut bytes);
+        self.put_links(&mut bytes);
+        self.put_stamps(&mut bytes);
+        self.put_place(&mut bytes);
         bytes
     }
 }

@@ -2,7 +2,7 @@ use Rattle.std.proofs.Common.{◌+◌, ◌*◌, [], ◌∷◌, length, ap, ap₂
 use Rattle.records.specs.Bytes.{bytes_of}
 use Rattle.records.proofs.LowFirst.{low_first}
 use Rattle.records.proofs.WritesInOrder.{after, last}
-use Rattle.records.proofs.writing.put_head.Goals as goal
+use Rattle.records.proofs.direntry.DirEntry.put_head.Goals as goal
 
 pub returns : goal.returns
 returns c =
