@@ -23,6 +23,7 @@ impl NameKey {
     pub fn codes(&self) -> &[u32]
         ensures { result.now ≡ (keyed self.now).folded }
     {
+        // The fields are public, so no invariant bounds the count, and it is cut here.
         let count = usize::from(self.code_count).min(MAX_NAME_LEN);
         &self.codes[..count]
     }

@@ -57,6 +57,7 @@ impl Name {
         ensures spelled { result.now ≡ spelled self.now }
         ensures few { length result.now ≤ 31 }
     {
+        // No invariant bounds the count: a broken record too means a name, of as many units as it says, so it is cut here.
         let len = usize::from(self.len).min(MAX_NAME_LEN);
         &self.units[..len]
     }
@@ -66,7 +67,7 @@ impl Name {
 fn is_forbidden(unit: u16) -> bool
     ensures { result ≡ forbidden unit }
 {
-    matches!(unit, 47 | 92 | 58 | 33)
+    matches!(u8::try_from(unit), Ok(b'/' | b'\\' | b':' | b'!'))
 }
 
 /// Whether none of `/ \ : !` stands among the units.

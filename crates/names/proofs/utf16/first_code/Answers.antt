@@ -1,4 +1,4 @@
-use Rattle.std.proofs.Common.{◌≡◌, ◌<◌, ◌≤◌, false, ◌&&◌, ◌⊎◌, length, get_or, sym, inl, inr, arith, rules}
+use Rattle.std.proofs.Common.{◌≡◌, ◌<◌, ◌≤◌, false, ◌&&◌, ◌⊎◌, length, get_or, sym, arith, rules}
 use Rattle.std.proofs.lemmas.List.{nil_from_length}
 use Rattle.names.specs.Units.{high, low}
 use Rattle.names.proofs.CodePoints.{codes_of_pair, codes_of_single, rest_shorter}
@@ -20,9 +20,7 @@ returns-in-len2-up c =
 pub returns-in-len1-up : goal.returns-in-len1-up
 returns-in-len1-up c =
     let one : 1 ≤ length c.args.units.now = search rules in
-    let alone : (length c.args.units.now < 2) ⊎ ((high (get_or c.args.units.now 0 0) && low (get_or c.args.units.now 1 0)) ≡ false) =
-    elim c.in-len1-up-1.branch [ then-units-lt2 w ↦ inl (search rules) | in-len2-up+else-is_pair w ↦ inr (sym w.if-is_pair.ensures) ]
-    in
+    let alone : (length c.args.units.now < 2) ⊎ ((high (get_or c.args.units.now 0 0) && low (get_or c.args.units.now 1 0)) ≡ false) = search rules in
     record {
       codes = codes_of_single c.args.units.now _ one alone c.from.ensures;
       shorter = rest_shorter c.args.units.now 1 (omega arith) one;
