@@ -1,5 +1,5 @@
 //! A name's key: its unit count and its folded code points.
-ghost use Rattle.std.specs.Prelude.{◌≡◌, ◌≤◌, ◌+◌, ◌<◌, length, slice_set, Decides};
+ghost use Rattle.std.specs.Prelude.{◌≡◌, ◌+◌, ◌<◌, slice_set, Decides};
 ghost use Rattle.std.proofs.Common.{rules};
 ghost use Rattle.std.specs.Cmp.Rules.{comparing};
 ghost use Rattle.names.specs.Names.{spelled};
@@ -23,7 +23,7 @@ impl NameKey {
     pub fn codes(&self) -> &[u32]
         ensures { result.now ≡ (keyed self.now).folded }
     {
-        // The fields are public, so no invariant bounds the count, and it is cut here.
+        // The fields are public and any count may stand there, so it is cut here.
         let count = usize::from(self.code_count).min(MAX_NAME_LEN);
         &self.codes[..count]
     }

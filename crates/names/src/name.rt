@@ -1,5 +1,5 @@
 //! A counted name.
-ghost use Rattle.std.specs.Prelude.{◌≡◌, ◌≤◌, min, [], length, if◌then◌else◌, Ok, Err, nat_lt};
+ghost use Rattle.std.specs.Prelude.{◌≡◌, ◌≤◌, length, if◌then◌else◌, Ok, Err, nat_lt};
 ghost use Rattle.names.specs.declared.name.NameError.TheVariants.{TooLong, Forbidden};
 ghost use Rattle.names.specs.Names.{spelled, name_of, forbidden, allowed, name_number};
 

@@ -1,6 +1,7 @@
 -- The names of a well-formed path are well formed: a separator is no surrogate, so no pair is cut apart.
 use Rattle.std.proofs.Common.{◌≡◌, ℕ, zero, suc, ◌+◌, Bool, true, false, cond, ◌&&◌, eqb, leb, List, [], ◌∷◌, arith}
 use Rattle.std.proofs.lemmas.Bool.{and_parts, ne_eqb, leb-true}
+use Rattle.std.specs.List.{AllByRecursion}
 use Rattle.names.specs.Units.{high, low, surrogate, joined, well_formed, Spells, nothing, single, pair}
 use Rattle.paths.specs.Pieces.{Piece, longer, cut, enter_at, walk, AllWellFormed}
 use Rattle.paths.specs.Pieces.{nothing as dropped, parent}
@@ -8,8 +9,7 @@ use Rattle.names.proofs.Spelling.{spells_codes, spelled_well}
 
 -- pieces that all spell something
 abbrev AllSpelled : List Piece → Type 0
-AllSpelled [] = Unit {0}
-AllSpelled (p ∷ ps) = ((cs : List ℕ) × Spells p.units cs) × AllSpelled ps
+AllSpelled ps = AllByRecursion (λ p. (cs : List ℕ) × Spells p.units cs) ps
 
 not_separator : (b : Bool) (u : ℕ) → (leb 0xd800 u && b) ≡ true → eqb u 47 ≡ false
 not_separator b u h = let l = leb-true 0xd800 u (and_parts (leb 0xd800 u) b h).0 in ne_eqb u 47 (λ e. omega arith)

@@ -15,6 +15,7 @@
 --   path_number e    the number of a refusal
 --   AllWellFormed    each of the pieces is UTF-16
 use Rattle.std.specs.Prelude.{◌≡◌, ℕ, zero, suc, ◌+◌, ◌-◌, ◌≤◌, max, Bool, true, false, cond, ◌&&◌, List, [], ◌∷◌, length, take, Some, None, Option, ◌==◌, nat_lt}
+use Rattle.std.specs.List.{AllByRecursion}
 use Rattle.paths.specs.declared.PathError.{PathError}
 use Rattle.paths.specs.declared.PathError.TheVariants.{BadUtf16, AboveRoot, TooManyNames}
 use Rattle.paths.specs.declared.Component.{Component}
@@ -94,5 +95,4 @@ path_number AboveRoot = 5
 path_number TooManyNames = 6
 
 abbrev pub AllWellFormed : List Piece → Type 0
-AllWellFormed [] = Unit {0}
-AllWellFormed (p ∷ ps) = (well_formed p.units ≡ true) × AllWellFormed ps
+AllWellFormed ps = AllByRecursion (λ p. well_formed p.units ≡ true) ps
