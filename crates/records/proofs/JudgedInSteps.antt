@@ -43,30 +43,16 @@ lenient : {A : Type 0} (m : Validation) (f : Flaw) (rs : List Rule) (x : A) → 
 lenient Permissive f rs x e = e
 lenient Strict f rs x e = e
 
--- the type and the colour of a byte, and the rule on it
-type_read : (n : ℕ) → ok_or (type_of n) BadType ≡ judge (rule BadType (not (n == 0 || (n == 1 || (n == 2 || n == 5)))) ∷ []) (cond (n == 1) Storage (cond (n == 2) Stream (cond (n == 5) Root Unallocated)))
-type_read n = by_test (n == 0) refl
-  where
-    others : (q r s : Bool) → ok_or (cond q (Some Storage) (cond r (Some Stream) (cond s (Some Root) None))) BadType ≡ judge (rule BadType (not (q || (r || s))) ∷ []) (cond q Storage (cond r Stream (cond s Root Unallocated)))
-    others true r s = refl
-    others false true s = refl
-    others false false true = refl
-    others false false false = refl
+-- the type and the colour of a byte that is not zero, and the rule on it
+type_if : (q r s : Bool) → ok_or (cond q (Some Storage) (cond r (Some Stream) (cond s (Some Root) None))) BadType ≡ judge (rule BadType (not (q || (r || s))) ∷ []) (cond q Storage (cond r Stream (cond s Root Unallocated)))
+type_if true r s = refl
+type_if false true s = refl
+type_if false false true = refl
+type_if false false false = refl
 
-    by_test : (p : Bool) → (n == 0) ≡ p → ok_or (type_of n) BadType ≡ judge (rule BadType (not (n == 0 || (n == 1 || (n == 2 || n == 5)))) ∷ []) (cond (n == 1) Storage (cond (n == 2) Stream (cond (n == 5) Root Unallocated)))
-    by_test true e = let z = eqb-true n 0 e in rw z refl
-    by_test false e = rw e (others (n == 1) (n == 2) (n == 5))
-
-color_read : (n : ℕ) → ok_or (color_of n) BadColor ≡ judge (rule BadColor (not (n == 0 || n == 1)) ∷ []) (cond (n == 1) Black Red)
-color_read n = by_test (n == 0) refl
-  where
-    other : (q : Bool) → ok_or (cond q (Some Black) None) BadColor ≡ judge (rule BadColor (not q) ∷ []) (cond q Black Red)
-    other true = refl
-    other false = refl
-
-    by_test : (p : Bool) → (n == 0) ≡ p → ok_or (color_of n) BadColor ≡ judge (rule BadColor (not (n == 0 || n == 1)) ∷ []) (cond (n == 1) Black Red)
-    by_test true e = let z = eqb-true n 0 e in rw z refl
-    by_test false e = rw e (other (n == 1))
+color_if : (q : Bool) → ok_or (cond q (Some Black) None) BadColor ≡ judge (rule BadColor (not q) ∷ []) (cond q Black Red)
+color_if true = refl
+color_if false = refl
 
 -- a name spells its units
 pub spelled_name : (us : List ℕ) → spelled (name_of us) ≡ us
@@ -96,10 +82,18 @@ module _ (bs : List ℕ) (v : Version) (m : Validation) where
   head_rules = name_rules bs m ++ (type_rules bs ++ (title_rules (kind_in bs) (name_in bs) m ++ color_rules bs))
 
   type_judged : ok_or (type_of (byte_at bs 66)) BadType ≡ judge (type_rules bs) (kind_in bs)
-  type_judged = type_read (byte_at bs 66)
+  type_judged = by_test (byte_at bs 66 == 0) refl
+    where
+      by_test : (p : Bool) → (byte_at bs 66 == 0) ≡ p → ok_or (type_of (byte_at bs 66)) BadType ≡ judge (type_rules bs) (kind_in bs)
+      by_test true e = let z = eqb-true (byte_at bs 66) 0 e in rw z refl
+      by_test false e = rw e (type_if (byte_at bs 66 == 1) (byte_at bs 66 == 2) (byte_at bs 66 == 5))
 
   color_judged : ok_or (color_of (byte_at bs 67)) BadColor ≡ judge (color_rules bs) (color_in bs)
-  color_judged = color_read (byte_at bs 67)
+  color_judged = by_test (byte_at bs 67 == 0) refl
+    where
+      by_test : (p : Bool) → (byte_at bs 67 == 0) ≡ p → ok_or (color_of (byte_at bs 67)) BadColor ≡ judge (color_rules bs) (color_in bs)
+      by_test true e = let z = eqb-true (byte_at bs 67) 0 e in rw z refl
+      by_test false e = rw e (color_if (byte_at bs 67 == 1))
 
   -- a head, from its parts on
   head_after : Result Name Flaw → Result ObjType Flaw → Result Color Flaw → Result Head Flaw

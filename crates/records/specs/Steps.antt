@@ -67,7 +67,7 @@ link_steps bs k =
     and_then (child_step bs k) (λ c.
     Ok (record { left = l; right = r; child = c }))))
 
--- of a stream, nothing is kept
+-- a stream has none of the three
 abbrev pub stamp_steps : List ℕ → ObjType → Validation → Result Stamps Flaw
 stamp_steps bs k m =
     if is_stream k then
@@ -78,7 +78,7 @@ stamp_steps bs k m =
     else
     Ok (record { clsid = clsid_in bs; creation = record { 0 = time_in bs Creation }; modified = record { 0 = time_in bs Modified } })
 
--- of a storage, nothing is kept
+-- a storage has neither
 abbrev pub place_steps : List ℕ → ObjType → Version → Validation → Result Place Flaw
 place_steps bs k v m =
     if is_storage k then

@@ -19,12 +19,12 @@ use fields::version::Version;
 use names::name::Name;
 
 /// An entry of a directory: what a record means.
+// Numbers for none (NO_STREAM, END_OF_CHAIN, zeros) stand as in the record, so that one record has one entry.
 #[derive(Debug, Clone, Copy, PartialEq, Eq)]
 pub struct DirEntry {
     pub name: Name,
     pub obj_type: ObjType,
     pub color: Color,
-    // Links as the record has them: with an Option, None and Some(NO_STREAM) would be two entries of one record.
     pub left_sibling: u32,
     pub right_sibling: u32,
     pub child: u32,
