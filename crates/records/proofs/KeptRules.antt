@@ -1,5 +1,5 @@
 -- The rules that a record keeps, by their names.
-use Rattle.std.proofs.Common.{◌≡◌, ℕ, ◌%◌, Bool, true, false, cond, not, ◌&&◌, ◌||◌, eqb, ltb, List, [], ◌∷◌, Some, None, Ok, Err, Option, refl, ap, arith}
+use Rattle.std.proofs.Common.{◌≡◌, ℕ, ◌%◌, Bool, true, false, cond, not, ◌&&◌, ◌||◌, eqb, ltb, List, [], ◌∷◌, Some, None, Ok, Err, Option, refl, ap}
 use Rattle.std.specs.Str.{bytes_eq}
 use Rattle.names.specs.Names.{allowed}
 use Rattle.names.specs.Units.{well_formed}

@@ -40,12 +40,13 @@ pub unit_more : (us x y p : List ℕ) (i : ℕ) → i < length us → length us 
     take (2 * i + 2) y ≡ take (2 * i) x ++ p → drop (2 * i + 2) y ≡ drop (2 * i + 2) x →
     (take (2 * (i + 1)) y ≡ unit_bytes (take (i + 1) us)) × (drop (2 * (i + 1)) y ≡ replicate (64 - 2 * (i + 1)) 0)
 unit_more us x y p i h few q inv e f =
+    let u = get_or us i 0 in
     let n : 2 * (i + 1) ≡ 2 * i + 2 = omega arith in
     let m : 64 - 2 * i - 2 ≡ 64 - 2 * (i + 1) = omega arith in
-    let w = last x y p (bytes_of 2 (get_or us i 0)) (2 * i) (2 * i + 2) e q in (
-      ap (λ k. take k y) n ∙ w ∙ ap (λ z. z ++ bytes_of 2 (get_or us i 0)) inv.0 ∙ sym (unit_bytes-append (take i us) (get_or us i 0 ∷ [])) ∙ ap unit_bytes (sym (take_more us i 0 h)),
-      ap (λ k. drop k y) n ∙ f ∙ sym (drop-drop 2 (2 * i) x) ∙ ap (drop 2) inv.1 ∙ drop-replicate 2 (64 - 2 * i) 0 ∙ ap (λ k. replicate k 0) m,
-    )
+    let front : take (2 * i + 2) y ≡ unit_bytes (take i us) ++ bytes_of 2 u = last x y p (bytes_of 2 u) (2 * i) (2 * i + 2) e q ∙ ap (λ l. l ++ bytes_of 2 u) inv.0 in
+    let units : unit_bytes (take (i + 1) us) ≡ unit_bytes (take i us) ++ bytes_of 2 u = ap unit_bytes (take_more us i 0 h) ∙ unit_bytes-append (take i us) (u ∷ []) in
+    let back : drop (2 * i + 2) x ≡ replicate (64 - 2 * i - 2) 0 = sym (drop-drop 2 (2 * i) x) ∙ ap (drop 2) inv.1 ∙ drop-replicate 2 (64 - 2 * i) 0 in
+    (ap (λ k. take k y) n ∙ front ∙ sym units, ap (λ k. drop k y) n ∙ f ∙ back ∙ ap (λ k. replicate k 0) m)
 
 -- all of them
 pub units_all : (us x : List ℕ) (i : ℕ) → length us ≤ 31 → i ≡ length us → (take (2 * i) x ≡ unit_bytes (take i us)) × (drop (2 * i) x ≡ replicate (64 - 2 * i) 0) → x ≡ name_bytes us

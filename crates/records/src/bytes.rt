@@ -9,10 +9,7 @@ pub fn part<const N: usize>(bytes: &[u8; DIR_ENTRY_LEN], at: usize) -> [u8; N]
     requires { at + N ≤ 128 }
     ensures { result ≡ part at N bytes.now }
 {
-    let mut field = [0; N];
-    let end = at + N;
-    field.copy_from_slice(&bytes[at..end]);
-    field
+    *bytes[at..].first_chunk().unwrap()
 }
 
 /// Writes bytes from an offset on.
@@ -21,6 +18,5 @@ pub fn put<const N: usize>(bytes: &mut [u8], at: usize, part: &[u8; N])
     ensures front { take (at + N) bytes.new ≡ take at bytes.old ++ part.now }
     ensures rest { drop (at + N) bytes.new ≡ drop (at + N) bytes.old }
 {
-    let end = at + N;
-    bytes[at..end].copy_from_slice(part);
+    bytes[at..at + N].copy_from_slice(part);
 }

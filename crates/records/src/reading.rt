@@ -52,7 +52,7 @@ pub struct Reader<'a> {
 }
 
 impl Reader<'_> {
-    /// What a field gives that the entry's type does not have: `none`, but Strict refuses another value there.
+    /// A field that the entry's type does not have: it is read as `none`, and Strict refuses any other value there.
     fn unset<T: PartialEq + Copy>(&self, field: T, none: T, flaw: Flaw) -> Result<T, Flaw>
         ensures { result ≡ unset_step self.now.validation (T.eq field none) none flaw }
     {
@@ -63,6 +63,7 @@ impl Reader<'_> {
         }
     }
 
+    /// Name, type and colour.
     fn head(&self) -> Result<Head, Flaw>
         ensures { result ≡ head_steps self.now.bytes.now self.now.validation }
     {
@@ -77,6 +78,7 @@ impl Reader<'_> {
         })
     }
 
+    /// A link leads to a number that a record can have, or nowhere.
     fn link(&self, link: Link) -> Result<u32, Flaw>
         ensures { result ≡ link_step self.now.bytes.now link }
     {
