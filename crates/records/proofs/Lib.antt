@@ -1,4 +1,3 @@
-pub mod NumbersAt
 pub mod LowFirst
 pub mod MadeFromFn
 pub mod UnitPairs

@@ -1,5 +1,5 @@
 -- Units that bytes spell, two bytes each.
-use Rattle.std.proofs.Common.{◌≡◌, ℕ, zero, suc, ◌+◌, ◌*◌, ◌<◌, ◌≤◌, Bool, true, false, cond, not, ltb, List, [], ◌∷◌, length, get_or, take, Ok, Err, Result, sym, refl, ap, ◌∙◌, arith}
+use Rattle.std.proofs.Common.{◌≡◌, ℕ, zero, suc, ◌+◌, ◌*◌, ◌/◌, ◌<◌, ◌≤◌, Bool, true, false, cond, not, ltb, List, [], ◌∷◌, length, get_or, take, drop, Ok, Err, Result, sym, refl, ap, ◌∙◌, arith}
 use Rattle.std.proofs.lemmas.Bool.{le-ltb}
 use Rattle.names.specs.declared.name.Name.{Name}
 use Rattle.names.specs.declared.name.NameError.{NameError}
@@ -8,12 +8,19 @@ use Rattle.names.specs.Names.{name_of}
 use Rattle.names.specs.Units.{well_formed}
 use Rattle.fields.specs.declared.malformed.Flaw.TheVariants.{BadUtf16}
 use Rattle.records.specs.Steps.{spell_step}
-use Rattle.std.proofs.lemmas.List.{take-take, length-take-le, ext_get_or}
+use Rattle.std.specs.Simd.{first_chunks}
+use Rattle.std.proofs.lemmas.List.{take-take, length-take-le, length-drop, drop-drop, ext_get_or}
 use Rattle.records.specs.Bytes.{number, part, u16_at, units_of}
-use Rattle.records.proofs.NumbersAt.{u16_at_bytes}
 
 twice_suc : (n : ℕ) → 2 * suc n ≡ suc (suc (2 * n))
 twice_suc n = omega arith
+
+-- the number of two bytes
+number_two : (xs : List ℕ) → length xs ≡ 2 → get_or xs 0 0 + get_or xs 1 0 * 256 ≡ number xs
+number_two [] e = absurd (omega arith)
+number_two (x ∷ []) e = absurd (omega arith)
+number_two (x ∷ y ∷ []) e = omega arith
+number_two (x ∷ y ∷ z ∷ xs) e = absurd (omega arith)
 
 pub length_units : (n : ℕ) (xs : List ℕ) → length xs ≡ 2 * n → length (units_of xs) ≡ n
 length_units zero [] e = refl
@@ -34,12 +41,25 @@ take_units (suc n) [] = ap (λ m. units_of (take m [])) (sym (twice_suc n))
 take_units (suc n) (x ∷ []) = ap (λ m. units_of (take m (x ∷ []))) (sym (twice_suc n))
 take_units (suc n) (x ∷ y ∷ xs) = ap (λ us. number (x ∷ y ∷ []) ∷ us) (take_units n xs) ∙ ap (λ m. units_of (take m (x ∷ y ∷ xs))) (sym (twice_suc n))
 
--- units, each read from its place in their bytes
-pub units_read : (bs us : List ℕ) → length bs ≡ 64 → length us ≡ 32 → ((k : ℕ) → k < 32 → get_or us k 0 ≡ get_or bs (2 * k) 0 + get_or bs (2 * k + 1) 0 * 256) → us ≡ units_of bs
-units_read bs us l n f =
+-- a chunk of two bytes
+pair_at : (n k : ℕ) (xs d : List ℕ) → k < n → get_or (first_chunks 2 n xs) k d ≡ part (2 * k) 2 xs
+pair_at zero k xs d h = absurd (omega arith)
+pair_at (suc n) zero xs d h = refl
+pair_at (suc n) (suc k) xs d h = let z : 2 + 2 * k ≡ 2 * suc k = omega arith in pair_at n k (drop 2 xs) d (omega arith) ∙ ap (take 2) (drop-drop (2 * k) 2 xs) ∙ ap (λ j. part j 2 xs) z
+
+-- units, each read from its chunk of their bytes
+pub units_read : (bs us : List ℕ) (ps : List (List ℕ)) → length bs ≡ 64 → length us ≡ 32 → ps ≡ first_chunks 2 (length bs / 2) bs →
+    ((k : ℕ) → k < 32 → get_or us k 0 ≡ get_or (get_or ps k []) 0 0 + get_or (get_or ps k []) 1 0 * 256) → us ≡ units_of bs
+units_read bs us ps l n e f =
     let u : length (units_of bs) ≡ 32 = length_units 32 bs l in
-    ext_get_or 0 us (units_of bs) (n ∙ sym u)
-    (λ k h. f k (omega arith) ∙ u16_at_bytes bs (2 * k) (omega arith) ∙ sym (get_or_units bs k (omega arith)))
+    ext_get_or 0 us (units_of bs) (n ∙ sym u) (λ k h. by_chunk k (omega arith))
+  where
+    by_chunk : (k : ℕ) → k < 32 → get_or us k 0 ≡ get_or (units_of bs) k 0
+    by_chunk k h =
+        let p : get_or ps k [] ≡ part (2 * k) 2 bs = ap (λ q. get_or q k []) e ∙ pair_at (length bs / 2) k bs [] (omega arith) in
+        let d = length-drop (2 * k) bs in
+        let t : length (part (2 * k) 2 bs) ≡ 2 = length-take-le 2 (drop (2 * k) bs) (omega arith) in
+        f k h ∙ ap (λ q. get_or q 0 0 + get_or q 1 0 * 256) p ∙ number_two (part (2 * k) 2 bs) t ∙ sym (get_or_units bs k (omega arith))
 
 -- the first of them
 units_front : (bs us : List ℕ) (n : ℕ) → n ≤ 31 → us ≡ units_of (part 0 64 bs) → take n us ≡ units_of (part 0 (2 * n) bs)

@@ -50,7 +50,8 @@ impl Reader<'_> {
         ensures { result ≡ units_of (part 0 64 self.now.bytes.now) }
     {
         let field: [u8; consts::NAME_FIELD_LEN] = part(self.bytes, consts::NAME_OFFSET);
-        array::from_fn(|i| u16::from_le_bytes([field[2 * i], field[2 * i + 1]]))
+        let (pairs, _) = field.as_chunks();
+        array::from_fn(|i| u16::from_le_bytes(pairs[i]))
     }
 
     /// The name, as the record has it.
