@@ -1,7 +1,8 @@
 -- Arrays of fixed length that are filled from the front.
-use Rattle.std.proofs.Common.{◌≡◌, ℕ, suc, ◌-◌, ◌<◌, List, [], ◌∷◌, ◌++◌, length, set, replicate, refl, ap, ◌∙◌, append_assoc, arith}
+use Rattle.std.proofs.Common.{◌≡◌, ℕ, suc, ◌-◌, ◌<◌, ◌≤◌, List, [], ◌∷◌, ◌++◌, length, take, set, replicate, refl, ap, ◌∙◌, append_assoc, arith}
+use Rattle.std.proofs.Math.Seq.{take-append_seam}
 use Rattle.std.proofs.lemmas.List.{length_push, set_at}
-use Rattle.names.specs.Padding.{padded}
+use Rattle.names.specs.Padding.{padded, Counted}
 
 -- at least one zero is left
 zeros_more : (k : ℕ) → 0 < k → ◌≡◌ {A = List ℕ} (replicate k 0) (0 ∷ replicate (k - 1) 0)
@@ -14,3 +15,9 @@ padded_more w xs ps i x l h e =
     let s : set ps i x ≡ xs ++ x ∷ replicate (w - length xs - 1) 0 = rw (e, z) (set_at xs 0 (replicate (w - length xs - 1) 0) x i l) in
     let c : w - length (xs ++ x ∷ []) ≡ w - length xs - 1 = rw (length_push xs x) (omega arith) in
     s ∙ rw (c, append_assoc) refl
+
+-- what fits, padded
+pub counted : (w : ℕ) (xs : List ℕ) → length xs ≤ w → Counted w (length xs) (padded w xs)
+counted w xs h =
+    let front : take (length xs) (padded w xs) ≡ xs = take-append_seam xs (replicate (w - length xs) 0) in
+    record { few = h; count = rw front refl; rest = rw front refl }

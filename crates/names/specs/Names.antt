@@ -1,22 +1,12 @@
 -- Names: up to 31 units, counted, in place.
 --
---   spelled n      the units of a name
---   name_of us     the name of a list of at most 31 units: the units, then zeros up to 31
 --   forbidden u    u is one of / \ : !
 --   allowed us     none of the units is forbidden
 --   name_number e  the number of a refusal
-use Rattle.std.specs.Prelude.{ℕ, Bool, not, ◌||◌, List, length, take, ◌==◌}
+use Rattle.std.specs.Prelude.{ℕ, Bool, not, ◌||◌, List, ◌==◌}
 use Rattle.std.specs.List.{list_all}
-use Rattle.names.specs.Padding.{padded}
-use Rattle.names.specs.declared.name.Name.{Name}
 use Rattle.names.specs.declared.name.NameError.{NameError}
 use Rattle.names.specs.declared.name.NameError.TheVariants.{TooLong, Forbidden}
-
-abbrev pub spelled : Name → List ℕ
-spelled n = take n.len n.units
-
-abbrev pub name_of : List ℕ → Name
-name_of us = record { len = length us; units = padded 31 us }
 
 abbrev pub forbidden : ℕ → Bool
 forbidden u = u == 47 || (u == 92 || (u == 58 || u == 33))

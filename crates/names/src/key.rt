@@ -2,7 +2,6 @@
 ghost use Rattle.std.specs.Prelude.{◌≡◌, ◌+◌, ◌<◌, slice_set, Decides};
 ghost use Rattle.std.proofs.Common.{rules};
 ghost use Rattle.std.specs.Cmp.Rules.{comparing};
-ghost use Rattle.names.specs.Names.{spelled};
 ghost use Rattle.names.specs.Keys.{key_of, keyed, in_place, same_key};
 
 use crate::folding::Folding;
@@ -58,7 +57,7 @@ impl Eq for NameKey {
 
 /// The key under which a name is indexed.
 pub fn name_key<F: Folding>(folding: &F, name: &Name) -> NameKey
-    ensures { result ≡ in_place (key_of (F.folds folding.now) (spelled name.now)) }
+    ensures { result ≡ in_place (key_of (F.folds folding.now) name.now) }
 {
     let units = name.units();
     let mut key = NameKey {

@@ -1,7 +1,9 @@
 //! A counted name.
 ghost use Rattle.std.specs.Prelude.{◌≡◌, ◌≤◌, length, if◌then◌else◌, Ok, Err, nat_lt};
 ghost use Rattle.names.specs.declared.name.NameError.TheVariants.{TooLong, Forbidden};
-ghost use Rattle.names.specs.Names.{spelled, name_of, forbidden, allowed, name_number};
+ghost use Rattle.names.specs.Names.{forbidden, allowed, name_number};
+
+use std::marker::Model;
 
 /// The most units that a name may have: a record has room for 32, and the last is a null.
 pub const MAX_NAME_LEN: usize = 31;
@@ -12,6 +14,23 @@ pub const MAX_NAME_LEN: usize = 31;
 pub struct Name {
     len: u8,
     units: [u16; MAX_NAME_LEN],
+}
+
+/// A name is its units. What lies behind them is zero, so that names with the same units are the same.
+impl Model for Name {
+    ghost use Rattle.std.specs.Prelude.{ℕ, List, length, take};
+    ghost use Rattle.std.proofs.Common.{sym};
+    ghost use Rattle.names.specs.Padding.{padded, Counted};
+
+    ghost Value = { List ℕ };
+
+    ghost view = { λ n. take n.len n.units };
+
+    ghost invariant = { λ n. Counted 31 n.len n.units };
+
+    ghost inverse = { λ us. record { len = length us; units = padded 31 us } };
+
+    ghost inverse_ok = { λ n h i. record { len = sym h.count i; units = sym h.rest i } };
 }
 
 /// Why units are no name, or not one that an entry may be given.
@@ -38,7 +57,7 @@ impl NameError {
 impl Name {
     /// The name of these units, unless they are too many. No units at all are the empty name.
     pub fn new(units: &[u16]) -> Result<Name, NameError>
-        ensures { result ≡ (if nat_lt 31 (length units.now) then Err TooLong else Ok (name_of units.now)) }
+        ensures { result ≡ (if nat_lt 31 (length units.now) then Err TooLong else Ok units.now) }
     {
         let len = units.len();
         if len > MAX_NAME_LEN {
@@ -54,12 +73,10 @@ impl Name {
 
     /// The units of the name.
     pub fn units(&self) -> &[u16]
-        ensures spelled { result.now ≡ spelled self.now }
+        ensures spelled { result.now ≡ self.now }
         ensures few { length result.now ≤ 31 }
     {
-        // No invariant bounds the count: a broken record too means a name, of as many units as it says, so it is cut here.
-        let len = usize::from(self.len).min(MAX_NAME_LEN);
-        &self.units[..len]
+        &self.units[..usize::from(self.len)]
     }
 }
 
@@ -79,7 +96,7 @@ pub fn is_allowed(units: &[u16]) -> bool
 
 /// The name that an entry may be given: at most 31 units, and none of them forbidden.
 pub fn validate_name(units: &[u16]) -> Result<Name, NameError>
-    ensures { result ≡ (if nat_lt 31 (length units.now) then Err TooLong else (if allowed units.now then Ok (name_of units.now) else Err Forbidden)) }
+    ensures { result ≡ (if nat_lt 31 (length units.now) then Err TooLong else (if allowed units.now then Ok units.now else Err Forbidden)) }
 {
     let name = Name::new(units)?;
     if is_allowed(units) {
