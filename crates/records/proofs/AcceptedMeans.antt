@@ -1,7 +1,6 @@
 -- What a record means that keeps the rules.
 use Rattle.std.proofs.Common.{◌≡◌, ℕ, Bool, true, false, cond, not, ◌||◌, eqb, List, Some, None, Ok, Err, Result, MatchResult, sym, refl, subst}
 use Rattle.std.proofs.lemmas.Bool.{eqb-true}
-use Rattle.names.specs.Names.{name_of}
 use Rattle.fields.specs.declared.objtype.ObjType.TheVariants.{Unallocated, Storage, Stream, Root}
 use Rattle.fields.specs.declared.color.Color.TheVariants.{Red, Black}
 use Rattle.fields.specs.declared.version.Version.{Version}
@@ -9,9 +8,9 @@ use Rattle.fields.specs.declared.validate.Validation.{Validation}
 use Rattle.fields.specs.declared.malformed.Flaw.{Flaw}
 use Rattle.records.specs.declared.direntry.DirEntry.{DirEntry}
 use Rattle.records.specs.Bytes.{byte_at}
-use Rattle.fields.specs.Kinds.{type_byte, color_byte, is_root}
-use Rattle.records.specs.Fields.{name_in, kind_in, color_in}
-use Rattle.records.specs.Rules.{about, first, root_units, rules, meaning, reads}
+use Rattle.fields.specs.Kinds.{type_byte, color_byte}
+use Rattle.records.specs.Fields.{kind_in, color_in}
+use Rattle.records.specs.Rules.{about, first, rules, meaning, reads}
 use Rattle.records.specs.Means.{Means}
 use Rattle.records.proofs.KeptRules.{Holds, judged_ok, kept_none, judged_err, by_name}
 
@@ -28,11 +27,6 @@ color_by a true x p q k = sym (q refl)
 color_by true false x p q k = sym (p refl)
 color_by false false x p q k = cc
 
--- the name of either list of units
-pub named_by : (b : Bool) (us : List ℕ) → cond b (name_of root_units) (name_of us) ≡ name_of (cond b root_units us)
-named_by true us = refl
-named_by false us = refl
-
 module _ (bs : List ℕ) (v : Version) (m : Validation) where
   pub type_kept : Holds bs v m → type_byte (kind_in bs) ≡ byte_at bs 66
   type_kept h =
@@ -44,7 +38,7 @@ module _ (bs : List ℕ) (v : Version) (m : Validation) where
 
   means_kept : Holds bs v m → Means bs v (meaning bs v)
   means_kept h = record {
-    name = named_by (is_root (kind_in bs)) (name_in bs);
+    name = refl;
     kind = type_kept h;
     color = color_kept h;
     left = refl;

@@ -1,10 +1,8 @@
 -- A record that is judged part by part is judged by all of the rules in their order.
-use Rattle.std.proofs.Common.{◌≡◌, ℕ, zero, ◌-◌, Bool, true, false, cond, not, ◌&&◌, ◌||◌, ◌==◌, List, [], ◌∷◌, ◌++◌, length, take, drop, replicate, Some, None, Ok, Err, Result, ok_or, refl, ap, ◌∙◌}
+use Rattle.std.proofs.Common.{◌≡◌, ℕ, zero, Bool, true, false, cond, not, ◌&&◌, ◌||◌, ◌==◌, List, [], ◌∷◌, ◌++◌, take, drop, Some, None, Ok, Err, Result, ok_or, refl, ap, ◌∙◌}
 use Rattle.std.specs.Str.{bytes_eq}
 use Rattle.std.proofs.lemmas.Bool.{eqb-true}
-use Rattle.std.proofs.lemmas.List.{take_at}
 use Rattle.names.specs.declared.name.Name.{Name}
-use Rattle.names.specs.Names.{spelled, name_of}
 use Rattle.fields.specs.declared.objtype.ObjType.{ObjType}
 use Rattle.fields.specs.declared.objtype.ObjType.TheVariants.{Unallocated, Storage, Stream, Root}
 use Rattle.fields.specs.declared.color.Color.{Color}
@@ -54,16 +52,12 @@ color_if : (q : Bool) → ok_or (cond q (Some Black) None) BadColor ≡ judge (r
 color_if true = refl
 color_if false = refl
 
--- a name spells its units
-pub spelled_name : (us : List ℕ) → spelled (name_of us) ≡ us
-spelled_name us = take_at us (replicate (31 - length us) 0) (length us) refl
-
 module _ (bs : List ℕ) (v : Version) (m : Validation) where
-  name_judged : name_steps bs m ≡ judge (name_rules bs m) (name_of (name_in bs))
-  name_judged = then_judge (take 3 (name_rules bs m)) (drop 3 (name_rules bs m)) (name_units bs) (spell_step bs) (name_of (name_in bs)) refl
+  name_judged : name_steps bs m ≡ judge (name_rules bs m) (name_in bs)
+  name_judged = then_judge (take 3 (name_rules bs m)) (drop 3 (name_rules bs m)) (name_units bs) (spell_step bs) (name_in bs) refl
 
   head_in : Head
-  head_in = record { name = titled (kind_in bs) (name_of (name_in bs)); obj_type = kind_in bs; color = color_in bs }
+  head_in = record { name = titled (kind_in bs) (name_in bs); obj_type = kind_in bs; color = color_in bs }
 
   links_in : Links
   links_in = record { left = link_in bs Left; right = link_in bs Right; child = link_in bs Child }
@@ -97,16 +91,15 @@ module _ (bs : List ℕ) (v : Version) (m : Validation) where
 
   -- a head, from its parts on
   head_after : Result Name Flaw → Result ObjType Flaw → Result Color Flaw → Result Head Flaw
-  head_after r s u = and_then r (λ n. and_then s (λ k. and_then (judge (title_rules k (spelled n) m) (titled k n)) (λ t. and_then u (λ c. Ok (record { name = t; obj_type = k; color = c })))))
+  head_after r s u = and_then r (λ n. and_then s (λ k. and_then (judge (title_rules k n m) (titled k n)) (λ t. and_then u (λ c. Ok (record { name = t; obj_type = k; color = c })))))
 
   head_judged : head_steps bs m ≡ judge head_rules head_in
   unfolding head_rules head_in head_after
   head_judged =
       (λ i. head_after (name_judged i) (type_judged i) (color_judged i))
-      ∙ then_judge (name_rules bs m) (type_rules bs ++ (title_rules (kind_in bs) (name_in bs) m ++ color_rules bs)) (name_of (name_in bs)) _ head_in
+      ∙ then_judge (name_rules bs m) (type_rules bs ++ (title_rules (kind_in bs) (name_in bs) m ++ color_rules bs)) (name_in bs) _ head_in
       (then_judge (type_rules bs) (title_rules (kind_in bs) (name_in bs) m ++ color_rules bs) (kind_in bs) _ head_in
-      (ap (λ us. and_then (judge (title_rules (kind_in bs) us m) (titled (kind_in bs) (name_of (name_in bs)))) (λ t. and_then (judge (color_rules bs) (color_in bs)) (λ c. Ok (record { name = t; obj_type = kind_in bs; color = c })))) (spelled_name (name_in bs))
-      ∙ then_judge (title_rules (kind_in bs) (name_in bs) m) (color_rules bs) (titled (kind_in bs) (name_of (name_in bs))) _ head_in (then_judge (color_rules bs) [] (color_in bs) _ head_in refl)))
+      (then_judge (title_rules (kind_in bs) (name_in bs) m) (color_rules bs) (titled (kind_in bs) (name_in bs)) _ head_in (then_judge (color_rules bs) [] (color_in bs) _ head_in refl)))
 
   links_judged : link_steps bs (kind_in bs) ≡ judge (link_rules bs (kind_in bs)) links_in
   unfolding links_in

@@ -2,7 +2,6 @@
 use Rattle.std.proofs.Common.{◌≡◌, ℕ, ◌+◌, List, [], ◌++◌, length, take, drop, sym, ap, ◌∙◌, subst, ap₂}
 use Rattle.std.proofs.Math.Seq.{take-append-add}
 use Rattle.std.proofs.lemmas.List.{append_assoc, drop-drop, drop_at}
-use Rattle.names.specs.Names.{spelled}
 use Rattle.fields.specs.declared.link.Link.TheVariants.{Left, Right, Child}
 use Rattle.records.specs.declared.direntry.DirEntry.{DirEntry}
 use Rattle.records.specs.Bytes.{bytes_of}
@@ -15,17 +14,17 @@ module _ (e : DirEntry) (s : Sized e) where
   rest : List ℕ
   rest = head_bytes e ++ (link_bytes e ++ (stamp_bytes e ++ place_bytes e))
 
-  long : length (name_bytes (spelled e.name)) ≡ 64
-  long = field_long (spelled e.name) [] s.few
+  long : length (name_bytes e.name) ≡ 64
+  long = field_long e.name [] s.few
 
   -- a part put in behind the name field, k bytes from it
-  put_in : (k j : ℕ) (new : List ℕ) → name_bytes (spelled e.name) ++ (take k rest ++ (new ++ drop j rest)) ≡ take (64 + k) (written e) ++ (new ++ drop (64 + j) (written e))
+  put_in : (k j : ℕ) (new : List ℕ) → name_bytes e.name ++ (take k rest ++ (new ++ drop j rest)) ≡ take (64 + k) (written e) ++ (new ++ drop (64 + j) (written e))
   unfolding rest
   put_in k j new =
-      let front : take (64 + k) (written e) ≡ name_bytes (spelled e.name) ++ take k rest =
-      subst (λ w. take (w + k) (written e) ≡ name_bytes (spelled e.name) ++ take k rest) long (take-append-add (name_bytes (spelled e.name)) rest k) in
-      let back : drop (64 + j) (written e) ≡ drop j rest = sym (drop-drop j 64 (written e)) ∙ ap (drop j) (drop_at (name_bytes (spelled e.name)) rest 64 long) in
-      sym (append_assoc (name_bytes (spelled e.name)) (take k rest) (new ++ drop j rest)) ∙ ap₂ (λ f b. f ++ (new ++ b)) (sym front) (sym back)
+      let front : take (64 + k) (written e) ≡ name_bytes e.name ++ take k rest =
+      subst (λ w. take (w + k) (written e) ≡ name_bytes e.name ++ take k rest) long (take-append-add (name_bytes e.name) rest k) in
+      let back : drop (64 + j) (written e) ≡ drop j rest = sym (drop-drop j 64 (written e)) ∙ ap (drop j) (drop_at (name_bytes e.name) rest 64 long) in
+      sym (append_assoc (name_bytes e.name) (take k rest) (new ++ drop j rest)) ∙ ap₂ (λ f b. f ++ (new ++ b)) (sym front) (sym back)
 
 pub relinked : RelinkedInPlace
 unfolding rest

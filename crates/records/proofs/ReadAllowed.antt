@@ -1,8 +1,8 @@
 -- What is read, in either mode, is an entry that a record can hold and the format allows.
-use Rattle.std.proofs.Common.{◌≡◌, ℕ, zero, suc, ◌*◌, ◌%◌, ◌<◌, ◌≤◌, Bool, true, cond, ◌&&◌, eqb, ltb, List, [], ◌∷◌, length, get_or, sym, refl, ap, ◌∙◌, arith}
+use Rattle.std.proofs.Common.{◌≡◌, ℕ, zero, suc, ◌*◌, ◌%◌, ◌<◌, ◌≤◌, Bool, true, cond, ◌&&◌, eqb, ltb, List, [], ◌∷◌, length, get_or, refl, arith}
 use Rattle.std.proofs.lemmas.Bool.{cond-true, cond_both, ltb-true, ltb-false, and_parts, eqb-true, not-false}
 use Rattle.std.proofs.lemmas.List.{length-take-le}
-use Rattle.names.specs.Names.{spelled, name_of, allowed}
+use Rattle.names.specs.Names.{allowed}
 use Rattle.names.specs.Units.{well_formed}
 use Rattle.fields.specs.declared.version.Version.{Version}
 use Rattle.fields.specs.declared.version.Version.TheVariants.{V3, V4}
@@ -13,10 +13,8 @@ use Rattle.records.specs.Bytes.{part, u64_at}
 use Rattle.fields.specs.Kinds.{is_storage, is_stream, is_root}
 use Rattle.fields.specs.Versions.{cut}
 use Rattle.records.specs.Fields.{name_length, name_units, name_in, kind_in, link_in, clsid_in, time_in, start_in, length_in}
-use Rattle.records.specs.Rules.{root_units, nil, nowhere, titled, meaning}
+use Rattle.records.specs.Rules.{root_units, nil, nowhere, meaning}
 use Rattle.records.specs.Allowed.{IsRecord, Sized, Allowed, title_in}
-use Rattle.records.proofs.AcceptedMeans.{named_by}
-use Rattle.records.proofs.JudgedInSteps.{spelled_name}
 use Rattle.records.proofs.KeptRules.{Holds}
 use Rattle.records.proofs.NumbersBack.{zeros_small, part_below, small_part, unit_below, length_part}
 use Rattle.records.proofs.UnitPairs.{length_units}
@@ -71,13 +69,6 @@ module _ (bs : List ℕ) (v : Version) (m : Validation) (r : IsRecord bs) (k : H
   units_small : (i : ℕ) → get_or (name_in bs) i 0 < 65536
   units_small i = unit_below (part 0 (2 * name_units bs) bs) (small_part bs 0 (2 * name_units bs) r.1) i
 
-  -- the name that is given
-  title_named : titled (kind_in bs) (name_of (name_in bs)) ≡ name_of (title_in bs)
-  title_named = named_by (is_root (kind_in bs)) (name_in bs)
-
-  pub title_spelled : spelled (titled (kind_in bs) (name_of (name_in bs))) ≡ title_in bs
-  title_spelled = ap spelled title_named ∙ spelled_name (title_in bs)
-
   title_few : length (title_in bs) ≤ 31
   title_few = cond_both (is_root (kind_in bs)) root_units (name_in bs) (λ us. length us ≤ 31) (λ e. omega arith) (λ e. units_few)
 
@@ -86,9 +77,8 @@ module _ (bs : List ℕ) (v : Version) (m : Validation) (r : IsRecord bs) (k : H
 
   pub read_sized : Sized (meaning bs v)
   read_sized = record {
-    name = title_named ∙ ap name_of (sym title_spelled);
-    few = rw title_spelled title_few;
-    units = λ i. rw title_spelled (title_small i);
+    few = title_few;
+    units = title_small;
     left = part_below bs 68 4 r (omega arith);
     right = part_below bs 72 4 r (omega arith);
     child = part_below bs 76 4 r (omega arith);
@@ -103,9 +93,9 @@ module _ (bs : List ℕ) (v : Version) (m : Validation) (r : IsRecord bs) (k : H
 
   pub read_allowed : Allowed v (meaning bs v)
   read_allowed = record {
-    utf16 = rw title_spelled (cond_both (is_root (kind_in bs)) root_units (name_in bs) (λ us. well_formed us ≡ true) (λ e. refl) (λ e. not-false (well_formed (name_in bs)) k.utf16));
-    root = λ h. title_spelled ∙ cond-true (is_root (kind_in bs)) root_units (name_in bs) h;
-    other = λ h. rw title_spelled (rw h (loud true (allowed (name_in bs)) (rw h at k.other) refl));
+    utf16 = (cond_both (is_root (kind_in bs)) root_units (name_in bs) (λ us. well_formed us ≡ true) (λ e. refl) (λ e. not-false (well_formed (name_in bs)) k.utf16));
+    root = λ h. cond-true (is_root (kind_in bs)) root_units (name_in bs) h;
+    other = λ h. (rw h (loud true (allowed (name_in bs)) (rw h at k.other) refl));
     left = k.left;
     right = k.right;
     child = k.child;

@@ -1,9 +1,8 @@
 -- What Strict reads stands in the record as it is.
-use Rattle.std.proofs.Common.{◌≡◌, ℕ, Bool, false, cond, not, ◌&&◌, eqb, List, sym, refl, ap}
+use Rattle.std.proofs.Common.{◌≡◌, ℕ, Bool, false, cond, not, ◌&&◌, eqb, List, sym, refl}
 use Rattle.std.specs.Str.{bytes_eq}
 use Rattle.std.proofs.lemmas.Slice.Eq.{bytes_eq-Decides}
 use Rattle.std.proofs.lemmas.Bool.{eqb-true, not-false}
-use Rattle.names.specs.Names.{name_of}
 use Rattle.fields.specs.declared.version.Version.{Version}
 use Rattle.fields.specs.declared.validate.Validation.TheVariants.{Strict}
 use Rattle.fields.specs.declared.timestamp.Time.TheVariants.{Creation, Modified}
@@ -25,7 +24,7 @@ module _ (bs : List ℕ) (v : Version) (r : IsRecord bs) (k : Holds bs v Strict)
   read_stands = record {
     short = short bs v Strict r k;
     even = even bs v Strict r k;
-    name = kept_or_zero (is_root (kind_in bs)) (name_of (name_in bs)) (name_of root_units) (λ h. ap name_of ((bytes_eq-Decides (name_in bs) root_units).0 (loud (is_root (kind_in bs)) (bytes_eq (name_in bs) root_units) k.root h)));
+    name = kept_or_zero (is_root (kind_in bs)) (name_in bs) root_units (λ h. (bytes_eq-Decides (name_in bs) root_units).0 (loud (is_root (kind_in bs)) (bytes_eq (name_in bs) root_units) k.root h));
     ended = eqb-true (end_in bs) 0 (not-false (eqb (end_in bs) 0) k.ended);
     kind = sym (type_kept bs v Strict k);
     color = sym (color_kept bs v Strict k);

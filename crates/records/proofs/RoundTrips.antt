@@ -12,7 +12,7 @@ use Rattle.fields.specs.Versions.{cut}
 use Rattle.records.specs.Fields.{kind_in, time_in, start_in, length_in}
 use Rattle.records.specs.Rules.{meaning, reads}
 use Rattle.records.specs.Writing.{name_bytes, written}
-use Rattle.records.specs.Allowed.{IsRecord, Allowed, Stands, zero_if, length_bytes, canonical}
+use Rattle.records.specs.Allowed.{IsRecord, Allowed, Stands, zero_if, length_bytes, canonical, title_in}
 use Rattle.records.specs.Laws.{StrictIsExact, WrittenReadsBack, StrictInPermissive, RewrittenIsCanonical, RecordsTell}
 use Rattle.records.proofs.KeptRules.{Holds, read_holds, holds_read}
 use Rattle.records.proofs.AcceptedMeans.{type_kept, color_kept}
@@ -20,7 +20,7 @@ use Rattle.std.proofs.lemmas.List.{at_drop_more}
 use Rattle.records.proofs.NumbersBack.{bytes_back, part_below}
 use Rattle.records.proofs.StrictExact.{standing_reads, type_tells, color_tells}
 use Rattle.records.proofs.WrittenStands.{written_record, written_stands}
-use Rattle.records.proofs.ReadAllowed.{read_sized, read_allowed, title_spelled}
+use Rattle.records.proofs.ReadAllowed.{read_sized, read_allowed}
 use Rattle.records.proofs.ReadStands.{read_stands}
 
 pub exact : StrictIsExact
@@ -97,7 +97,6 @@ length_back V4 bs r = bytes_back bs 120 8 r (omega arith)
 module _ (bs : List ℕ) (v : Version) (m : Validation) (r : IsRecord bs) (k : Holds bs v m) where
   rewritten : written (meaning bs v) ≡ canonical bs v
   rewritten =
-      let us = title_spelled bs v m r k in
       let kind = type_kept bs v m k in
       let color = color_kept bs v m k in
       let left = bytes_back bs 68 4 r (omega arith) in
@@ -109,8 +108,8 @@ module _ (bs : List ℕ) (v : Version) (m : Validation) (r : IsRecord bs) (k : H
       let start = field_back (is_storage (kind_in bs)) (start_in bs) 4 (part 116 4 bs) refl (bytes_back bs 116 4 r (omega arith)) in
       let len = field_back (is_storage (kind_in bs)) (length_in bs v) 8 (length_bytes v bs) refl (length_back v bs r) in
       λ i.
-      name_bytes (us i)
-      ++ ((bytes_of 2 (2 * (length (us i) + 1)) ++ (kind i ∷ color i ∷ []))
+      name_bytes (title_in bs)
+      ++ ((bytes_of 2 (2 * (length (title_in bs) + 1)) ++ (kind i ∷ color i ∷ []))
       ++ ((left i ++ (right i ++ child i))
       ++ ((zero_if (is_stream (kind_in bs)) 16 (part 80 16 bs) ++ (state i ++ (creation i ++ modified i)))
       ++ (start i ++ len i))))

@@ -3,7 +3,7 @@ use Rattle.std.proofs.Common.{◌≡◌, ℕ, ◌%◌, Bool, true, false, cond, 
 use Rattle.std.specs.Str.{bytes_eq}
 use Rattle.std.proofs.lemmas.Slice.Eq.{bytes_eq-Decides}
 use Rattle.std.proofs.lemmas.Bool.{le-ltb, eq-eqb, not-true, not-false}
-use Rattle.names.specs.Names.{spelled, name_of, allowed}
+use Rattle.names.specs.Names.{allowed}
 use Rattle.names.specs.Units.{well_formed}
 use Rattle.fields.specs.declared.objtype.ObjType.{ObjType}
 use Rattle.fields.specs.declared.objtype.ObjType.TheVariants.{Unallocated, Storage, Stream, Root}
@@ -18,7 +18,6 @@ use Rattle.fields.specs.Kinds.{type_byte, color_byte, is_storage, is_stream, is_
 use Rattle.records.specs.Fields.{name_length, name_in, end_in, kind_in, color_in, link_in, clsid_in, time_in, start_in, length_in}
 use Rattle.records.specs.Rules.{root_units, nil, nowhere, stray, titled, meaning, reads}
 use Rattle.records.specs.Allowed.{Allowed, Stands}
-use Rattle.records.proofs.JudgedInSteps.{spelled_name}
 use Rattle.records.proofs.KeptRules.{Holds, holds_read}
 
 -- a rule that holds of some entries only
@@ -80,8 +79,8 @@ module _ (bs : List ℕ) (v : Version) (e : DirEntry) (s : Stands bs v e) (a : A
   unfolding color_from
   color_is = ap color_from s.color ∙ color_back e.color
 
-  units_are : name_in bs ≡ spelled e.name
-  units_are = sym (spelled_name (name_in bs)) ∙ ap spelled (sym s.name)
+  units_are : name_in bs ≡ e.name
+  units_are = sym s.name
 
   -- a rule of a type, seen from the entry
   of_kind : (p : ObjType → Bool) (t : Bool) → (p e.obj_type ≡ true → t ≡ true) → (p (kind_in bs) && not t) ≡ false
@@ -115,8 +114,8 @@ module _ (bs : List ℕ) (v : Version) (e : DirEntry) (s : Stands bs v e) (a : A
   mended : {A : Type 0} (p : ObjType → Bool) (x y z : A) → x ≡ y → (p e.obj_type ≡ true → y ≡ z) → cond (p (kind_in bs)) z x ≡ y
   mended p x y z q h = ap (λ k. cond (p k) z x) kind_is ∙ ap (cond (p e.obj_type) z) q ∙ kept_or_zero (p e.obj_type) y z h
 
-  title_is : titled (kind_in bs) (name_of (name_in bs)) ≡ e.name
-  title_is = mended is_root (name_of (name_in bs)) e.name (name_of root_units) (sym s.name) (λ h. s.name ∙ ap name_of (units_are ∙ a.root h))
+  title_is : titled (kind_in bs) (name_in bs) ≡ e.name
+  title_is = mended is_root (name_in bs) e.name root_units (sym s.name) (λ h. s.name ∙ (units_are ∙ a.root h))
 
   meaning_is : meaning bs v ≡ e
   meaning_is =

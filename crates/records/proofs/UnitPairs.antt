@@ -4,7 +4,6 @@ use Rattle.std.proofs.lemmas.Bool.{le-ltb}
 use Rattle.names.specs.declared.name.Name.{Name}
 use Rattle.names.specs.declared.name.NameError.{NameError}
 use Rattle.names.specs.declared.name.NameError.TheVariants.{TooLong}
-use Rattle.names.specs.Names.{name_of}
 use Rattle.names.specs.Units.{well_formed}
 use Rattle.fields.specs.declared.malformed.Flaw.TheVariants.{BadUtf16}
 use Rattle.records.specs.Steps.{spell_step}
@@ -70,19 +69,19 @@ module _ (bs us : List ℕ) (n : ℕ) (h : n ≤ 31) (e : us ≡ units_of (part 
   spelt : List ℕ
   spelt = units_of (part 0 (2 * n) bs)
 
-  spell_by : (b : Bool) → b ≡ well_formed (take n us) → cond (not b) (Err BadUtf16) (Ok (name_of spelt)) ≡ spell_step bs n
+  spell_by : (b : Bool) → b ≡ well_formed (take n us) → cond (not b) (Err BadUtf16) (Ok spelt) ≡ spell_step bs n
   unfolding spelt
-  spell_by b w = ap (λ t. cond (not t) (Err BadUtf16) (Ok (name_of spelt))) (w ∙ ap well_formed (units_front bs us n h e))
+  spell_by b w = ap (λ t. cond (not t) (Err BadUtf16) (Ok spelt)) (w ∙ ap well_formed (units_front bs us n h e))
 
-  pub spell_ok : (name : Name) (r : Result Name NameError) → length us ≡ 32 → true ≡ well_formed (take n us) → r ≡ cond (ltb 31 (length (take n us))) (Err TooLong) (Ok (name_of (take n us))) → r ≡ Ok name → Ok name ≡ spell_step bs n
+  pub spell_ok : (name : Name) (r : Result Name NameError) → length us ≡ 32 → true ≡ well_formed (take n us) → r ≡ cond (ltb 31 (length (take n us))) (Err TooLong) (Ok (take n us)) → r ≡ Ok name → Ok name ≡ spell_step bs n
   unfolding spelt
   spell_ok name r l w q o =
       let f = units_front bs us n h e in
       let k : length (take n us) ≡ n = length-take-le n us (omega arith) in
       let short : ltb 31 (length (take n us)) ≡ false = le-ltb 31 (length (take n us)) (omega arith) in
-      let m : ◌≡◌ {A = Result Name NameError} (Ok name) (Ok (name_of (take n us))) = sym o ∙ q ∙ ap (λ b. cond b (Err TooLong) (Ok (name_of (take n us)))) short in
-      let i : name ≡ name_of (take n us) = cc in
-      ap Ok (i ∙ ap name_of f) ∙ spell_by true w
+      let m : ◌≡◌ {A = Result Name NameError} (Ok name) (Ok (take n us)) = sym o ∙ q ∙ ap (λ b. cond b (Err TooLong) (Ok (take n us))) short in
+      let i : name ≡ (take n us) = cc in
+      ap Ok (i ∙ f) ∙ spell_by true w
 
   pub spell_bad : false ≡ well_formed (take n us) → Err BadUtf16 ≡ spell_step bs n
   spell_bad w = spell_by false w

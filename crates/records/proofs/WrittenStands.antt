@@ -1,7 +1,6 @@
 -- An entry stands in its own record.
 use Rattle.std.proofs.Common.{◌≡◌, ℕ, zero, suc, ◌+◌, ◌-◌, ◌*◌, ◌<◌, ◌≤◌, List, [], ◌∷◌, ◌++◌, length, get_or, take, drop, replicate, sym, refl, ap, ◌∙◌, arith}
 use Rattle.std.proofs.lemmas.List.{append_assoc, length-append, drop-drop, drop_at, take_at, get_or-append_right}
-use Rattle.names.specs.Names.{spelled, name_of}
 use Rattle.names.specs.Padding.{padded}
 use Rattle.fields.specs.declared.objtype.ObjType.{ObjType}
 use Rattle.fields.specs.declared.objtype.ObjType.TheVariants.{Unallocated, Storage, Stream, Root}
@@ -56,7 +55,7 @@ module _ (v : Version) (e : DirEntry) (s : Sized e) where
   -- behind the name field
   early : (k : ℕ) → drop (64 + k) (written e) ≡ drop k behind_name
   unfolding behind_name
-  early k = skip (name_bytes (spelled e.name)) (head_bytes e ++ (link_bytes e ++ (stamp_bytes e ++ place_bytes e))) 64 k (field_long (spelled e.name) [] s.few)
+  early k = skip (name_bytes e.name) (head_bytes e ++ (link_bytes e ++ (stamp_bytes e ++ place_bytes e))) 64 k (field_long e.name [] s.few)
 
   stamps_split : stamp_bytes e ++ place_bytes e ≡ e.clsid ++ behind_clsid
   unfolding behind_clsid
@@ -70,24 +69,24 @@ module _ (v : Version) (e : DirEntry) (s : Sized e) where
   late : (k : ℕ) → drop (80 + (16 + k)) (written e) ≡ drop k behind_clsid
   late k = sym (drop-drop (16 + k) 80 (written e)) ∙ ap (drop (16 + k)) at_clsid ∙ skip e.clsid behind_clsid 16 k s.clsid
 
-  size_is : name_length (written e) ≡ 2 * (length (spelled e.name) + 1)
+  size_is : name_length (written e) ≡ 2 * (length e.name + 1)
   unfolding behind_name
-  size_is = let f = s.few in ap (λ l. number (take 2 l)) (early 0) ∙ number_bytes 2 (2 * (length (spelled e.name) + 1)) (omega arith)
+  size_is = let f = s.few in ap (λ l. number (take 2 l)) (early 0) ∙ number_bytes 2 (2 * (length e.name + 1)) (omega arith)
 
-  count_is : name_units (written e) ≡ length (spelled e.name)
+  count_is : name_units (written e) ≡ length e.name
   count_is = let z = size_is in omega arith
 
-  name_is : name_in (written e) ≡ spelled e.name
+  name_is : name_in (written e) ≡ e.name
   unfolding behind_name
-  name_is = ap (λ n. units_of (part 0 (2 * n) (written e))) count_is ∙ field_name (spelled e.name) (head_bytes e ++ (link_bytes e ++ (stamp_bytes e ++ place_bytes e))) s.few s.units
+  name_is = ap (λ n. units_of (part 0 (2 * n) (written e))) count_is ∙ field_name e.name (head_bytes e ++ (link_bytes e ++ (stamp_bytes e ++ place_bytes e))) s.few s.units
 
   ends : end_in (written e) ≡ 0
-  ends = ap (λ n. u16_at (written e) (2 * n)) count_is ∙ field_ends (spelled e.name) (head_bytes e ++ (link_bytes e ++ (stamp_bytes e ++ place_bytes e))) s.few
+  ends = ap (λ n. u16_at (written e) (2 * n)) count_is ∙ field_ends e.name (head_bytes e ++ (link_bytes e ++ (stamp_bytes e ++ place_bytes e))) s.few
 
   byte_at_written : (k : ℕ) → byte_at (written e) (64 + k) ≡ get_or (head_bytes e ++ (link_bytes e ++ (stamp_bytes e ++ place_bytes e))) k 0
   byte_at_written k =
       let z : 64 + k - 64 ≡ k = omega arith in
-      get_or-append_right (name_bytes (spelled e.name)) (head_bytes e ++ (link_bytes e ++ (stamp_bytes e ++ place_bytes e))) 64 (64 + k) 0 (field_long (spelled e.name) [] s.few) (omega arith)
+      get_or-append_right (name_bytes e.name) (head_bytes e ++ (link_bytes e ++ (stamp_bytes e ++ place_bytes e))) 64 (64 + k) 0 (field_long e.name [] s.few) (omega arith)
       ∙ ap (λ i. get_or (head_bytes e ++ (link_bytes e ++ (stamp_bytes e ++ place_bytes e))) i 0) z
 
   kind_small : (k : ObjType) → type_byte k < 256
@@ -108,7 +107,7 @@ module _ (v : Version) (e : DirEntry) (s : Sized e) where
 
   head_small : (i : ℕ) → get_or (head_bytes e) i 0 < 256
   head_small =
-      small_append (bytes_of 2 (2 * (length (spelled e.name) + 1))) (type_byte e.obj_type ∷ color_byte e.color ∷ []) (small_bytes 2 (2 * (length (spelled e.name) + 1)))
+      small_append (bytes_of 2 (2 * (length e.name + 1))) (type_byte e.obj_type ∷ color_byte e.color ∷ []) (small_bytes 2 (2 * (length e.name + 1)))
       (small_cons (type_byte e.obj_type) (color_byte e.color ∷ []) (kind_small e.obj_type) (small_cons (color_byte e.color) [] (color_small e.color) (λ i. omega arith)))
 
   links_small : (i : ℕ) → get_or (link_bytes e) i 0 < 256
@@ -121,13 +120,13 @@ module _ (v : Version) (e : DirEntry) (s : Sized e) where
 
   pub written_record : IsRecord (written e)
   written_record =
-      let n = field_long (spelled e.name) [] s.few in
-      let a = length-append (name_bytes (spelled e.name)) (head_bytes e ++ (link_bytes e ++ (stamp_bytes e ++ place_bytes e))) in
+      let n = field_long e.name [] s.few in
+      let a = length-append (name_bytes e.name) (head_bytes e ++ (link_bytes e ++ (stamp_bytes e ++ place_bytes e))) in
       let b = length-append (stamp_bytes e) (place_bytes e) in
       let c = length-append e.clsid (bytes_of 4 e.state_bits ++ (bytes_of 8 e.creation_time.0 ++ bytes_of 8 e.modified_time.0)) in
       let d = s.clsid in (
         omega arith,
-        small_append (name_bytes (spelled e.name)) (head_bytes e ++ (link_bytes e ++ (stamp_bytes e ++ place_bytes e))) (small_units (padded 32 (spelled e.name)))
+        small_append (name_bytes e.name) (head_bytes e ++ (link_bytes e ++ (stamp_bytes e ++ place_bytes e))) (small_units (padded 32 e.name))
             (small_append (head_bytes e) (link_bytes e ++ (stamp_bytes e ++ place_bytes e)) head_small
             (small_append (link_bytes e) (stamp_bytes e ++ place_bytes e) links_small (small_append (stamp_bytes e) (place_bytes e) stamps_small place_small))),
       )
@@ -137,7 +136,7 @@ module _ (v : Version) (e : DirEntry) (s : Sized e) where
   written_stands room = record {
     short = let z = size_is in let f = s.few in omega arith;
     even = let z = size_is in omega arith;
-    name = s.name ∙ ap name_of (sym name_is);
+    name = sym name_is;
     ended = ends;
     kind = byte_at_written 2;
     color = byte_at_written 3;

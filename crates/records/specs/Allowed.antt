@@ -12,7 +12,7 @@
 --   length_bytes v bs  the eight bytes of what counts of a length
 --   canonical bs v     the bytes of a record put in order: nothing after the name, zeros where the type has no such field
 use Rattle.std.specs.Prelude.{◌≡◌, ℕ, ◌+◌, ◌*◌, ◌%◌, ◌^◌, ◌<◌, ◌≤◌, Bool, true, false, cond, List, [], ◌∷◌, ◌++◌, length, replicate, slice_index}
-use Rattle.names.specs.Names.{spelled, name_of, allowed}
+use Rattle.names.specs.Names.{allowed}
 use Rattle.names.specs.Units.{well_formed}
 use Rattle.fields.specs.declared.version.Version.{Version}
 use Rattle.fields.specs.declared.version.Version.TheVariants.{V3, V4}
@@ -28,9 +28,8 @@ abbrev pub IsRecord : List ℕ → Type 0
 IsRecord bs = (length bs ≡ 128) × ((i : ℕ) → slice_index bs i < 256)
 
 pub record Sized (e : DirEntry) : Type 0 where
-  pub name : e.name ≡ name_of (spelled e.name)
-  pub few : length (spelled e.name) ≤ 31
-  pub units : (i : ℕ) → slice_index (spelled e.name) i < 2 ^ 16
+  pub few : length e.name ≤ 31
+  pub units : (i : ℕ) → slice_index e.name i < 2 ^ 16
   pub left : e.left_sibling < 2 ^ 32
   pub right : e.right_sibling < 2 ^ 32
   pub child : e.child < 2 ^ 32
@@ -44,10 +43,10 @@ pub record Sized (e : DirEntry) : Type 0 where
 
 pub record Allowed (v : Version) (e : DirEntry) : Type 0 where
   -- every name
-  pub utf16 : well_formed (spelled e.name) ≡ true
+  pub utf16 : well_formed e.name ≡ true
   -- the root's name, and any other
-  pub root : is_root e.obj_type ≡ true → spelled e.name ≡ root_units
-  pub other : is_root e.obj_type ≡ false → allowed (spelled e.name) ≡ true
+  pub root : is_root e.obj_type ≡ true → e.name ≡ root_units
+  pub other : is_root e.obj_type ≡ false → allowed e.name ≡ true
   -- links
   pub left : stray e.left_sibling ≡ false
   pub right : stray e.right_sibling ≡ false
@@ -77,7 +76,7 @@ pub record Stands (bs : List ℕ) (v : Version) (e : DirEntry) : Type 0 where
   pub short : name_length bs ≤ 64
   pub even : name_length bs % 2 ≡ 0
   -- the name stands before a null
-  pub name : e.name ≡ name_of (name_in bs)
+  pub name : e.name ≡ name_in bs
   pub ended : end_in bs ≡ 0
   pub kind : byte_at bs 66 ≡ type_byte e.obj_type
   pub color : byte_at bs 67 ≡ color_byte e.color

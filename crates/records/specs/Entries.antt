@@ -7,7 +7,6 @@
 --   link_of l k x y  x where l and k are one link, else y
 use Rattle.std.specs.Prelude.{ℕ, cond, []}
 use Rattle.names.specs.declared.name.Name.{Name}
-use Rattle.names.specs.Names.{name_of}
 use Rattle.fields.specs.declared.objtype.ObjType.{ObjType}
 use Rattle.fields.specs.declared.objtype.ObjType.TheVariants.{Unallocated, Root}
 use Rattle.fields.specs.declared.color.Color.TheVariants.{Red, Black}
@@ -36,7 +35,7 @@ fresh n k t = record {
 
 abbrev pub blank : DirEntry
 blank = record {
-  name = name_of [];
+  name = [];
   obj_type = Unallocated;
   color = Red;
   left_sibling = nowhere;
@@ -51,7 +50,7 @@ blank = record {
 }
 
 abbrev pub new_root : DirEntry
-new_root = fresh (name_of root_units) Root (record { 0 = 0 })
+new_root = fresh root_units Root (record { 0 = 0 })
 
 abbrev pub link_of : Link → Link → ℕ → ℕ → ℕ
 link_of Left Left x y = x

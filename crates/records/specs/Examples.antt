@@ -6,7 +6,6 @@
 --   Meets l n  every record with the name length l is refused with the number n
 use Rattle.std.specs.Prelude.{◌≡◌, ℕ, false, List, ◌∷◌, ◌++◌, length, replicate, Ok, Err}
 use Rattle.names.specs.Examples.{Examples as NameExamples}
-use Rattle.names.specs.Names.{spelled}
 use Rattle.fields.specs.declared.version.Version.{Version}
 use Rattle.fields.specs.declared.validate.Validation.{Validation}
 use Rattle.fields.specs.declared.validate.Validation.TheVariants.{Strict}
@@ -24,8 +23,8 @@ abbrev pub freed : ℕ → List ℕ
 freed n = replicate 64 0 ++ (bytes_of 2 n ++ (0 ∷ 0 ∷ (replicate 12 255 ++ replicate 48 0)))
 
 pub record Gives (l n : ℕ) : Type 0 where
-  pub every : (bs : List ℕ) (v : Version) (m : Validation) (e : DirEntry) → length bs ≡ 128 → is_root (kind_in bs) ≡ false → name_length bs ≡ l → reads bs v m ≡ Ok e → length (spelled e.name) ≡ n
-  pub some : (v : Version) → (e : DirEntry) × (reads (freed l) v Strict ≡ Ok e) × (length (spelled e.name) ≡ n)
+  pub every : (bs : List ℕ) (v : Version) (m : Validation) (e : DirEntry) → length bs ≡ 128 → is_root (kind_in bs) ≡ false → name_length bs ≡ l → reads bs v m ≡ Ok e → length e.name ≡ n
+  pub some : (v : Version) → (e : DirEntry) × (reads (freed l) v Strict ≡ Ok e) × (length e.name ≡ n)
 
 abbrev pub Meets : ℕ → ℕ → Type 0
 Meets l n = (bs : List ℕ) (v : Version) (m : Validation) → name_length bs ≡ l → (f : Flaw) × (reads bs v m ≡ Err f) × (flaw_number f ≡ n)

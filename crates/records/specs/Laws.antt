@@ -10,7 +10,6 @@
 --   MadeAreAllowed        entries as they are made are allowed: free ones, the root of an empty directory, a storage
 --                         with any time, and a stream with none
 use Rattle.std.specs.Prelude.{◌≡◌, ℕ, ◌+◌, ◌^◌, ◌<◌, List, ◌++◌, take, drop, Ok}
-use Rattle.names.specs.Names.{name_of}
 use Rattle.fields.specs.declared.objtype.ObjType.TheVariants.{Storage, Stream}
 use Rattle.fields.specs.declared.version.Version.{Version}
 use Rattle.fields.specs.declared.validate.Validation.{Validation}
@@ -48,5 +47,5 @@ RelinkedInPlace = (e : DirEntry) (l : Link) (x : ℕ) → Sized e →
 pub record MadeAreAllowed (v : Version) : Type 0 where
   pub free : Fit v blank
   pub root : Fit v new_root
-  pub storage : (us : List ℕ) (t : ℕ) → Nameable us → t < 2 ^ 64 → Fit v (fresh (name_of us) Storage (record { 0 = t }))
-  pub stream : (us : List ℕ) → Nameable us → Fit v (fresh (name_of us) Stream (record { 0 = 0 }))
+  pub storage : (us : List ℕ) (t : ℕ) → Nameable us → t < 2 ^ 64 → Fit v (fresh us Storage (record { 0 = t }))
+  pub stream : (us : List ℕ) → Nameable us → Fit v (fresh us Stream (record { 0 = 0 }))

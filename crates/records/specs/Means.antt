@@ -4,7 +4,6 @@
 --                 the type gives (a root's name) or takes away (a stream's CLSID and times, a storage's start and
 --                 length), and version 3 has the low 32 bits of the length
 use Rattle.std.specs.Prelude.{◌≡◌, ℕ, cond, List}
-use Rattle.names.specs.Names.{name_of}
 use Rattle.fields.specs.declared.version.Version.{Version}
 use Rattle.records.specs.declared.direntry.DirEntry.{DirEntry}
 use Rattle.records.specs.Bytes.{part, byte_at, u32_at, u64_at}
@@ -14,7 +13,7 @@ use Rattle.records.specs.Fields.{name_in}
 use Rattle.records.specs.Rules.{root_units, nil}
 
 pub record Means (bs : List ℕ) (v : Version) (e : DirEntry) : Type 0 where
-  pub name : e.name ≡ name_of (cond (is_root e.obj_type) root_units (name_in bs))
+  pub name : e.name ≡ cond (is_root e.obj_type) root_units (name_in bs)
   pub kind : type_byte e.obj_type ≡ byte_at bs 66
   pub color : color_byte e.color ≡ byte_at bs 67
   pub left : e.left_sibling ≡ u32_at bs 68

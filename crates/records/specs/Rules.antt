@@ -22,7 +22,7 @@
 use Rattle.std.specs.Prelude.{ℕ, ◌%◌, Bool, cond, not, ◌&&◌, ◌||◌, List, [], ◌∷◌, ◌++◌, replicate, Some, None, Ok, Err, Option, Result, ◌==◌, nat_lt}
 use Rattle.std.specs.Str.{bytes_eq}
 use Rattle.names.specs.declared.name.Name.{Name}
-use Rattle.names.specs.Names.{name_of, allowed}
+use Rattle.names.specs.Names.{allowed}
 use Rattle.names.specs.Units.{well_formed}
 use Rattle.fields.specs.declared.objtype.ObjType.{ObjType}
 use Rattle.fields.specs.declared.version.Version.{Version}
@@ -113,11 +113,11 @@ rules bs v m =
     ++ (link_rules bs (kind_in bs) ++ (stamp_rules bs (kind_in bs) m ++ place_rules bs (kind_in bs) v m)))))
 
 abbrev pub titled : ObjType → Name → Name
-titled k n = cond (is_root k) (name_of root_units) n
+titled k n = cond (is_root k) root_units n
 
 abbrev pub meaning : List ℕ → Version → DirEntry
 meaning bs v = record {
-  name = titled (kind_in bs) (name_of (name_in bs));
+  name = titled (kind_in bs) (name_in bs);
   obj_type = kind_in bs;
   color = color_in bs;
   left_sibling = link_in bs Left;

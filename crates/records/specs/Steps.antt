@@ -9,7 +9,6 @@
 use Rattle.std.specs.Prelude.{ℕ, ◌*◌, Bool, if◌then◌else◌, not, ◌&&◌, List, [], ◌∷◌, take, Ok, Err, Result, ok_or, ◌==◌}
 use Rattle.std.specs.Str.{bytes_eq}
 use Rattle.names.specs.declared.name.Name.{Name}
-use Rattle.names.specs.Names.{spelled, name_of}
 use Rattle.names.specs.Units.{well_formed}
 use Rattle.fields.specs.declared.objtype.ObjType.{ObjType}
 use Rattle.fields.specs.declared.version.Version.{Version}
@@ -38,7 +37,7 @@ abbrev pub count_step : List ℕ → Validation → Result ℕ Flaw
 count_step bs m = judge (take 3 (name_rules bs m)) (name_units bs)
 
 abbrev pub spell_step : List ℕ → ℕ → Result Name Flaw
-spell_step bs n = judge (rule BadUtf16 (not (well_formed (units_of (part 0 (2 * n) bs)))) ∷ []) (name_of (units_of (part 0 (2 * n) bs)))
+spell_step bs n = judge (rule BadUtf16 (not (well_formed (units_of (part 0 (2 * n) bs)))) ∷ []) (units_of (part 0 (2 * n) bs))
 
 abbrev pub link_step : List ℕ → Link → Result ℕ Flaw
 link_step bs l = judge (rule (BadLink l) (stray (link_in bs l)) ∷ []) (link_in bs l)
@@ -56,7 +55,7 @@ abbrev pub head_steps : List ℕ → Validation → Result Head Flaw
 head_steps bs m =
     and_then (name_steps bs m) (λ n.
     and_then (ok_or (type_of (byte_at bs 66)) BadType) (λ k.
-    and_then (judge (title_rules k (spelled n) m) (titled k n)) (λ t.
+    and_then (judge (title_rules k n m) (titled k n)) (λ t.
     and_then (ok_or (color_of (byte_at bs 67)) BadColor) (λ c.
     Ok (record { name = t; obj_type = k; color = c })))))
 

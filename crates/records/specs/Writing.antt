@@ -7,7 +7,6 @@
 --   place_bytes e  start sector, length
 --   written e      the whole record
 use Rattle.std.specs.Prelude.{ℕ, ◌+◌, ◌*◌, List, [], ◌∷◌, ◌++◌, length}
-use Rattle.names.specs.Names.{spelled}
 use Rattle.names.specs.Padding.{padded}
 use Rattle.records.specs.declared.direntry.DirEntry.{DirEntry}
 use Rattle.records.specs.Bytes.{bytes_of, unit_bytes}
@@ -17,7 +16,7 @@ abbrev pub name_bytes : List ℕ → List ℕ
 name_bytes us = unit_bytes (padded 32 us)
 
 abbrev pub head_bytes : DirEntry → List ℕ
-head_bytes e = bytes_of 2 (2 * (length (spelled e.name) + 1)) ++ (type_byte e.obj_type ∷ color_byte e.color ∷ [])
+head_bytes e = bytes_of 2 (2 * (length e.name + 1)) ++ (type_byte e.obj_type ∷ color_byte e.color ∷ [])
 
 abbrev pub link_bytes : DirEntry → List ℕ
 link_bytes e = bytes_of 4 e.left_sibling ++ (bytes_of 4 e.right_sibling ++ bytes_of 4 e.child)
@@ -29,4 +28,4 @@ abbrev pub place_bytes : DirEntry → List ℕ
 place_bytes e = bytes_of 4 e.start_sector ++ bytes_of 8 e.stream_len
 
 abbrev pub written : DirEntry → List ℕ
-written e = name_bytes (spelled e.name) ++ (head_bytes e ++ (link_bytes e ++ (stamp_bytes e ++ place_bytes e)))
+written e = name_bytes e.name ++ (head_bytes e ++ (link_bytes e ++ (stamp_bytes e ++ place_bytes e)))

@@ -1,6 +1,5 @@
 //! The name field of a record: 32 units, the name's and then nulls.
 ghost use Rattle.std.specs.Prelude.{◌≡◌, ◌≤◌, IfOk};
-ghost use Rattle.names.specs.Names.{spelled, name_of};
 ghost use Rattle.records.specs.Bytes.{part, units_of};
 ghost use Rattle.records.specs.Rules.{judge, root_units, title_rules, titled};
 ghost use Rattle.records.specs.Steps.{count_step, name_steps};
@@ -17,7 +16,7 @@ use std::array;
 
 /// The root's own name.
 pub fn root_name() -> Name
-    ensures { result ≡ name_of root_units }
+    ensures { result ≡ root_units }
 {
     Name::new(&consts::ROOT_DIR_NAME).unwrap()
 }
@@ -70,7 +69,7 @@ impl Reader<'_> {
 
     /// The name of an entry of a type: the root's is given, and any other has no forbidden unit.
     pub fn title(&self, name: Name, obj_type: ObjType) -> Result<Name, Flaw>
-        ensures { result ≡ judge (title_rules obj_type (spelled name) self.now.validation) (titled obj_type name) }
+        ensures { result ≡ judge (title_rules obj_type name self.now.validation) (titled obj_type name) }
     {
         let units = name.units();
         if obj_type.is_root() {
@@ -88,7 +87,7 @@ impl Reader<'_> {
 
 /// The name field of a name.
 pub fn name_field(name: &Name) -> [u8; consts::NAME_FIELD_LEN]
-    ensures { result ≡ name_bytes (spelled name.now) }
+    ensures { result ≡ name_bytes name.now }
 {
     let mut field = [0; consts::NAME_FIELD_LEN];
     for (i, unit) in name.units().iter().enumerate() {
