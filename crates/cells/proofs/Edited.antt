@@ -1,12 +1,14 @@
 -- The entries of a table as a whole, after a key is put, gets another value, or is taken out.
 use Rattle.std.proofs.Common.{◌≡◌, ℕ, ◌+◌, ◌-◌, ◌<◌, Bool, true, false, cond, List, length, get_or, set, Some, None, Option, sym, refl, ap, ◌∙◌, subst, ⊎_elim, arith}
+use Rattle.std.specs.Cmp.{IsEquivalence, partial_equiv_from_equiv}
 use Rattle.std.proofs.lemmas.List.{length-set, get_or-set_other, set-set}
 use Rattle.std.proofs.lemmas.Bool.{cases_Bool}
 use Rattle.cells.specs.declared.cell.Entry.{Entry}
 use Rattle.cells.specs.Chains.{revalued}
-use Rattle.cells.specs.Maps.{value_in, Once, Dense}
+use Rattle.cells.specs.Rules.{Once, Dense}
+use Rattle.cells.specs.Maps.{value_in}
 use Rattle.cells.proofs.Entries.{some_of, none_of, At, set_here}
-use Rattle.cells.proofs.Lookups.{Laws, find_none, find_some, once_put, look_put, once_gone, look_gone, gone_none}
+use Rattle.cells.proofs.Lookups.{find_none, find_some, once_put, look_put, once_gone, look_gone, gone_none}
 use Rattle.cells.proofs.Firsts.{taken_below, dense_put, dense_replace, dense_last, dense_moved}
 
 pick : {X : Type 0} (b : Bool) (x y z : X) → cond b x (cond b y z) ≡ cond b x z
@@ -19,12 +21,7 @@ pub record Holding {K : Type 0} (same : K → K → Bool) (ws : List (Option (En
   pub dense : Dense ws count
   pub looks : (k : K) → value_in same ws k ≡ map k
 
-module _ {K : Type 0} (same : K → K → Bool) (laws : Laws same) (vs : List (Option (Entry K))) (count : ℕ) (once : Once same vs) (dense : Dense vs count) where
-  -- keys that are the same answer alike
-  agree : (x y : K) → same x y ≡ true → (k : K) → same x k ≡ same y k
-  agree x y a k = ⊎_elim (λ t. t ∙ sym (laws.joins y x k (laws.turns x y a) t))
-      (λ z. ⊎_elim (λ t. laws.joins x y k a t ∙ sym t) (λ w. z ∙ sym w) (cases_Bool (same y k))) (cases_Bool (same x k))
-
+module _ {K : Type 0} (same : K → K → Bool) (laws : IsEquivalence same) (vs : List (Option (Entry K))) (count : ℕ) (once : Once same vs) (dense : Dense vs count) where
   pub put_new : (e : Entry K) → count < length vs → ((j : ℕ) (x : Entry K) → At vs j x → same x.key e.key ≡ true → ⊥) →
       Holding same (set vs count (Some e)) (count + 1) (λ k. cond (same e.key k) (Some e.value) (value_in same vs k))
   put_new e lt none =
@@ -43,7 +40,7 @@ module _ {K : Type 0} (same : K → K → Bool) (laws : Laws same) (vs : List (O
     out_once = once_gone same laws vs i x inside once here
 
     out_looks : (k : K) → value_in same (set vs i None) k ≡ cond (same key k) None (value_in same vs k)
-    out_looks k = look_gone same laws vs i x inside once here k ∙ ap (λ b. cond b None (value_in same vs k)) (agree x.key key alike k)
+    out_looks k = look_gone same laws vs i x inside once here k ∙ ap (λ b. cond b None (value_in same vs k)) (laws.congr x.key key k alike)
 
     pub found_value : Some x.value ≡ value_in same vs key
     found_value = sym (find_some same laws vs key i x once here alike)
@@ -59,7 +56,7 @@ module _ {K : Type 0} (same : K → K → Bool) (laws : Laws same) (vs : List (O
           once = subst (Once same) (set-set vs i None (Some y)) (once_put same laws vs1 i y n1 out_once free none);
           dense = dense_replace vs count dense i x y here;
           looks = λ k. ap (λ ws. value_in same ws k) (sym (set-set vs i None (Some y))) ∙ look_put same laws vs1 i y n1 out_once free none k
-              ∙ ap (λ b. cond b (Some value) (value_in same vs1 k)) (agree x.key key alike k) ∙ ap (cond (same key k) (Some value)) (out_looks k) ∙ pick (same key k) (Some value) None (value_in same vs k);
+              ∙ ap (λ b. cond b (Some value) (value_in same vs1 k)) (laws.congr x.key key k alike) ∙ ap (cond (same key k) (Some value)) (out_looks k) ∙ pick (same key k) (Some value) None (value_in same vs k);
         } in
         subst (λ o. Holding same (set vs i (revalued o value)) count (λ k. cond (same key k) (Some value) (value_in same vs k))) (sym here) done
 
@@ -96,4 +93,4 @@ module _ {K : Type 0} (same : K → K → Bool) (laws : Laws same) (vs : List (O
     lacks_value = sym (find_none same laws vs key none)
 
     pub drop_none : (k : K) → value_in same vs k ≡ cond (same key k) None (value_in same vs k)
-    drop_none k = ⊎_elim (λ t. rw t (find_none same laws vs k (λ j e q a. none j e q (laws.joins e.key k key a (laws.turns key k t))))) (λ z. rw z) (cases_Bool (same key k))
+    drop_none k = ⊎_elim (λ t. rw t (find_none same laws vs k (λ j e q a. none j e q ((partial_equiv_from_equiv laws).trans e.key k key a (laws.symm k key ∙ t))))) (λ z. rw z) (cases_Bool (same key k))

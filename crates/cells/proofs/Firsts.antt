@@ -3,7 +3,7 @@ use Rattle.std.proofs.Common.{◌≡◌, ℕ, ◌+◌, ◌<◌, ◌≤◌, List,
 use Rattle.std.proofs.lemmas.List.{length-set, get_or-set_other}
 use Rattle.std.proofs.lemmas.Bool.{cases_lt, cases_eq}
 use Rattle.cells.specs.declared.cell.Entry.{Entry}
-use Rattle.cells.specs.Maps.{Dense}
+use Rattle.cells.specs.Rules.{Dense}
 use Rattle.cells.proofs.Entries.{both, At, set_here}
 
 module _ {K : Type 0} (vs : List (Option (Entry K))) (count : ℕ) (dense : Dense vs count) where

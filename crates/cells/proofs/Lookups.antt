@@ -1,20 +1,19 @@
 -- The map that a list of entries is, and how one write changes it.
 use Rattle.std.proofs.Common.{◌≡◌, ℕ, zero, suc, ◌<◌, Bool, true, false, cond, ◌⊎◌, List, [], ◌∷◌, length, get_or, set, Some, None, Option, sym, refl, ap, ◌∙◌, inl, inr, ⊎_elim, arith}
+use Rattle.std.specs.Cmp.{IsEquivalence, partial_equiv_from_equiv}
 use Rattle.std.proofs.lemmas.Bool.{cases_Bool}
 use Rattle.cells.specs.declared.cell.Entry.{Entry}
-use Rattle.cells.specs.Maps.{value_in, Once}
+use Rattle.cells.specs.Rules.{Once}
+use Rattle.cells.specs.Maps.{value_in}
 use Rattle.cells.proofs.Entries.{both, some_none, At, set_here, at_set, set_at}
 
--- sameness as the laws have it
-pub record Laws {K : Type 0} (same : K → K → Bool) : Type 0 where
-  pub reflects : (x : K) → same x x ≡ true
-  pub turns : (x y : K) → same x y ≡ true → same y x ≡ true
-  pub joins : (x y z : K) → same x y ≡ true → same y z ≡ true → same x z ≡ true
+turned : {K : Type 0} {same : K → K → Bool} → IsEquivalence same → (x y : K) → same x y ≡ true → same y x ≡ true
+turned laws x y h = laws.symm y x ∙ h
 
-pub lawful : {K : Type 0} {same : K → K → Bool} → ((x : K) → same x x ≡ true) → ((x y : K) → same x y ≡ true → same y x ≡ true) → ((x y z : K) → same x y ≡ true → same y z ≡ true → same x z ≡ true) → Laws same
-lawful reflects turns joins = record { reflects = reflects; turns = turns; joins = joins }
+joined : {K : Type 0} {same : K → K → Bool} → IsEquivalence same → (x y z : K) → same x y ≡ true → same y z ≡ true → same x z ≡ true
+joined laws = (partial_equiv_from_equiv laws).trans
 
-module _ {K : Type 0} (same : K → K → Bool) (laws : Laws same) where
+module _ {K : Type 0} (same : K → K → Bool) (laws : IsEquivalence same) where
   pub find_none : (vs : List (Option (Entry K))) (k : K) → ((j : ℕ) (e : Entry K) → At vs j e → same e.key k ≡ true → ⊥) → value_in same vs k ≡ None
   find_none [] k f = refl
   find_none (None ∷ vs) k f = find_none vs k (λ j e q a. f (suc j) e q a)
@@ -29,7 +28,7 @@ module _ {K : Type 0} (same : K → K → Bool) (laws : Laws same) where
   find_some (None ∷ vs) k (suc i) e once q a = find_some vs k i e (tail None vs once) q a
   find_some (Some x ∷ vs) k zero e once q a = let u : x ≡ e = cc in let t : same x.key k ≡ true = rw u a in rw t (ap (λ (z : Entry K). Some z.value) u)
   find_some (Some x ∷ vs) k (suc i) e once q a =
-      ⊎_elim (λ t. absurd (let h : 0 ≡ suc i = once 0 (suc i) x e refl q (laws.joins x.key k e.key t (laws.turns e.key k a)) in omega arith))
+      ⊎_elim (λ t. absurd (let h : 0 ≡ suc i = once 0 (suc i) x e refl q (joined laws x.key k e.key t (turned laws e.key k a)) in omega arith))
       (λ z. rw z (find_some vs k i e (tail (Some x) vs once) q a)) (cases_Bool (same x.key k))
 
   Found : List (Option (Entry K)) → K → Type 0
@@ -52,7 +51,7 @@ module _ {K : Type 0} (same : K → K → Bool) (laws : Laws same) where
     module _ (free : get_or vs f None ≡ None) (none : (j : ℕ) (x : Entry K) → At vs j x → same x.key e.key ≡ true → ⊥) where
       pub once_put : Once same (set vs f (Some e))
       once_put i j x y p q a =
-          ⊎_elim (λ s. ⊎_elim (λ t. s.0 ∙ sym t.0) (λ t. absurd (let u : e ≡ x = let w = s.1 in cc in none j y t.1 (laws.turns e.key y.key (rw u a)))) (at_set vs f (Some e) inside j y q))
+          ⊎_elim (λ s. ⊎_elim (λ t. s.0 ∙ sym t.0) (λ t. absurd (let u : e ≡ x = let w = s.1 in cc in none j y t.1 (turned laws e.key y.key (rw u a)))) (at_set vs f (Some e) inside j y q))
           (λ s. ⊎_elim (λ t. absurd (let u : e ≡ y = let w = t.1 in cc in none i x s.1 (rw u a))) (λ t. once i j x y s.1 t.1 a) (at_set vs f (Some e) inside j y q))
           (at_set vs f (Some e) inside i x p)
 
@@ -75,7 +74,7 @@ module _ {K : Type 0} (same : K → K → Bool) (laws : Laws same) where
       pub look_gone : (k : K) → value_in same (set vs f None) k ≡ cond (same e.key k) None (value_in same vs k)
       unfolding Found
       look_gone k =
-          ⊎_elim (λ t. rw t (find_none (set vs f None) k (λ j x q a. ⊎_elim (λ s. some_none x s.1) (λ s. s.0 (once j f x e s.1 taken (laws.joins x.key k e.key a (laws.turns e.key k t)))) (at_set vs f None inside j x q))))
+          ⊎_elim (λ t. rw t (find_none (set vs f None) k (λ j x q a. ⊎_elim (λ s. some_none x s.1) (λ s. s.0 (once j f x e s.1 taken (joined laws x.key k e.key a (turned laws e.key k t)))) (at_set vs f None inside j x q))))
           (λ z. rw z (⊎_elim
           (λ h. find_some (set vs f None) k h.0 h.1 once_gone (set_at vs f None inside h.0 h.1 (λ q. let w : Some e ≡ Some h.1 = sym taken ∙ ap (λ i. get_or vs i None) (sym q) ∙ h.2 in let u : e ≡ h.1 = cc in both (same h.1.key k) h.3 (rw u at z)) h.2) h.3
           ∙ sym (find_some vs k h.0 h.1 once h.2 h.3))

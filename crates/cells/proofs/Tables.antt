@@ -1,15 +1,17 @@
 -- A table's rules and its map after one of its calls.
 use Rattle.std.proofs.Common.{◌≡◌, ℕ, ◌+◌, ◌-◌, ◌<◌, ◌≤◌, Bool, List, length, get_or, set, is_some, Some, None, Option, sym, ap, ◌∙◌, subst, inl, ⊎_elim, arith}
+use Rattle.std.specs.Cmp.{IsEquivalence}
 use Rattle.std.proofs.lemmas.List.{get_or-map, get_or_past, set-get_or, set-set, get_or-set_other}
 use Rattle.std.proofs.lemmas.Bool.{cases_lt, cases_eq}
 use Rattle.cells.specs.declared.cell.Entry.{Entry}
 use Rattle.cells.specs.declared.cell.Cell.{Cell}
-use Rattle.cells.specs.Chains.{emptied, held, valued, revalued, Sits, Kept, Holds, Lacks}
-use Rattle.cells.specs.Maps.{value_in, Puts, Drops, Blank, with_key, without_key, Empty, Rules}
+use Rattle.cells.specs.Chains.{emptied, held, valued, revalued, without, Sits, Kept, Holds, Lacks}
+use Rattle.cells.specs.Rules.{Rules}
+use Rattle.cells.specs.Maps.{value_in, Puts, Drops, Blank, with_key, without_key, Empty}
 use Rattle.cells.proofs.Links.{link}
 use Rattle.cells.proofs.Fields.{length-held}
 use Rattle.cells.proofs.Entries.{some_none, At, set_here}
-use Rattle.cells.proofs.Lookups.{Laws, find_none}
+use Rattle.cells.proofs.Lookups.{find_none}
 use Rattle.cells.proofs.Firsts.{taken_below}
 use Rattle.cells.proofs.Edited.{Holding, put_new, found_value, put_value, drop_last, drop_moved, lacks_value, drop_none}
 
@@ -20,12 +22,17 @@ fill_none vs hole last free gone =
     let b : set vs hole None ≡ vs = subst (λ o. set vs hole o ≡ vs) free (set-get_or vs hole None) in
     a ∙ sym (ap (λ ws. set ws hole (get_or vs last None)) a ∙ ap (set vs hole) (sym gone) ∙ b)
 
+pub without_none : {K : Type 0} (vs ws us : List (Option (Entry K))) (hole last : ℕ) → hole < length vs → ws ≡ set vs hole None → us ≡ set ws last None → None ≡ get_or ws last None → us ≡ without vs hole last
+without_none vs ws us hole last inside e f gone =
+    let free : get_or ws hole None ≡ None = ap (λ os. get_or os hole None) e ∙ set_here vs hole None inside in
+    f ∙ fill_none ws hole last free gone ∙ ap (λ os. set (set os last None) hole (get_or os last None)) e
+
 -- the hole is free after the last entry is taken out too
 pub hole_free : {K : Type 0} (vs : List (Option (Entry K))) (hole last : ℕ) (e : Entry K) → get_or vs hole None ≡ None → Some e ≡ get_or vs last None → get_or (set vs last None) hole None ≡ None
 hole_free vs hole last e free here = get_or-set_other vs last hole None None (λ u. some_none e (sym free ∙ ap (λ j. get_or vs j None) u ∙ sym here)) ∙ free
 
 -- cells that are all empty
-module _ {K : Type 0} (hash : K → ℕ) (same : K → K → Bool) (laws : Laws same) (cells : List (Cell K)) (all : Empty cells) where
+module _ {K : Type 0} (hash : K → ℕ) (same : K → K → Bool) (laws : IsEquivalence same) (cells : List (Cell K)) (all : Empty cells) where
   free : (j : ℕ) → get_or (held cells) j None ≡ None
   free j = ⊎_elim (λ h. get_or-map (λ (x : Cell K). x.entry) cells j emptied None h ∙ ap (λ (x : Cell K). x.entry) (all j emptied h)) (λ g. get_or_past (held cells) j None (rw (length-held cells) g)) (cases_lt j (length cells))
 
@@ -50,7 +57,7 @@ module _ {K : Type 0} (hash : K → ℕ) (same : K → K → Bool) (laws : Laws 
   pub empty_blank : Blank (value_in same (held cells))
   empty_blank k = find_none same laws (held cells) k (λ j e q a. nothing j e q)
 
-module _ {K : Type 0} (hash : K → ℕ) (same : K → K → Bool) (laws : Laws same) (cells : List (Cell K)) (count : ℕ) (rules : Rules hash same cells count) where
+module _ {K : Type 0} (hash : K → ℕ) (same : K → K → Bool) (laws : IsEquivalence same) (cells : List (Cell K)) (count : ℕ) (rules : Rules hash same cells count) where
   known : (new : List (Cell K)) (ws : List (Option (Entry K))) (n : ℕ) (map : K → Option ℕ) → Kept hash new → held new ≡ ws → Holding same ws n map → Rules hash same new n × ((k : K) → value_in same (held new) k ≡ map k)
   known new ws n map kept is h =
       let h' : Holding same (held new) n map = subst (λ us. Holding same us n map) (sym is) h in
@@ -80,23 +87,19 @@ module _ {K : Type 0} (hash : K → ℕ) (same : K → K → Bool) (laws : Laws 
     fewer = ap (λ o. without_key o count) value_is
 
     -- what is given up last has nothing to move; else the last entry moves
-    pub remove_there : (mid new : List (Cell K)) → held mid ≡ set (held cells) i None → Kept hash new → held new ≡ set (set (held mid) (count - 1) None) i (get_or (held mid) (count - 1) None) →
+    pub remove_there : (new : List (Cell K)) → Kept hash new → held new ≡ without (held cells) i (count - 1) →
         Rules hash same new (count - 1) × Drops same (value_in same (held cells)) (value_in same (held new)) key × (count - 1 ≡ without_key (value_in same (held cells) key) count)
-    remove_there mid new hm kept is =
+    remove_there new kept is =
         let vs : List (Option (Entry K)) = held cells in
         let here : get_or (set vs i None) i None ≡ None = set_here vs i None (rw (length-held cells) holds.inside) in
-        let is' : held new ≡ set (set (set vs i None) (count - 1) None) i (get_or (set vs i None) (count - 1) None) = subst (λ us. held new ≡ set (set us (count - 1) None) i (get_or us (count - 1) None)) hm is in
         let d = ⊎_elim
         (λ q. known new _ (count - 1) _ kept
-        (subst (λ j. held new ≡ set (set (set vs i None) j None) i (get_or (set vs i None) j None)) (sym q) is'
+        (subst (λ j. held new ≡ set (set (set vs i None) j None) i (get_or (set vs i None) j None)) (sym q) is
         ∙ ap (λ us. set us i (get_or (set vs i None) i None)) (set-set vs i None None) ∙ ap (set (set vs i None) i) here ∙ set-set vs i None None)
         (drop_last same laws vs count rules.once rules.dense key i holds.entry holds.here holds.alike q))
-        (λ ne. known new _ (count - 1) _ kept is' (drop_moved same laws vs count rules.once rules.dense key i holds.entry holds.here holds.alike ne))
+        (λ ne. known new _ (count - 1) _ kept is (drop_moved same laws vs count rules.once rules.dense key i holds.entry holds.here holds.alike ne))
         (cases_eq i (count - 1)) in
         (d.0, d.1, fewer)
-
-    pub hole_there : (mid : List (Cell K)) → held mid ≡ set (held cells) i None → get_or (held mid) i None ≡ None
-    hole_there mid hm = ap (λ vs. get_or vs i None) hm ∙ set_here (held cells) i None (rw (length-held cells) holds.inside)
 
   -- a key that is not there
   module _ (key : K) (lacks : Lacks same cells key) where

@@ -7,7 +7,7 @@ use native.Mathlib.Bridge.{le_prop}
 use Rattle.cells.specs.declared.cell.Entry.{Entry}
 use Rattle.cells.specs.declared.cell.Cell.{Cell}
 use Rattle.cells.specs.Chains.{Sits, Link, Chained}
-use Rattle.cells.specs.Maps.{Dense, Rules}
+use Rattle.cells.specs.Rules.{Dense, Rules}
 
 absurd_prop : (p q : ⊥) → p ≡ q
 absurd_prop p q = absurd p

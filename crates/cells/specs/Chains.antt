@@ -7,6 +7,7 @@
 -- next_at   the next cell of a chain, as the cells say it
 -- valued    an entry's value
 -- revalued  an entry with another value
+-- without   what is held after one cell is emptied, and what the last one holds is moved there
 -- Sits      what a cell holds belongs into a bucket
 -- In        a cell is taken by an entry of a bucket
 -- Link      a number is the first with a property, from a number on; or there is none
@@ -19,7 +20,7 @@
 -- Between   the link that goes past a given cell, or to it
 -- Hooked    one link was changed, and nothing else
 
-use Rattle.std.specs.Prelude.{◌≡◌, ℕ, ◌+◌, ◌%◌, ◌<◌, ◌≤◌, Bool, true, ◌⊎◌, List, map, length, get_or, Some, None, Option, ◌≢◌, slice_index, slice_index_or}
+use Rattle.std.specs.Prelude.{◌≡◌, ℕ, ◌+◌, ◌%◌, ◌<◌, ◌≤◌, Bool, true, ◌⊎◌, List, map, length, get_or, Some, None, Option, ◌≢◌, slice_index, slice_index_or, slice_set}
 use Rattle.cells.specs.declared.cell.Entry.{Entry}
 use Rattle.cells.specs.declared.cell.Cell.{Cell}
 
@@ -45,6 +46,10 @@ valued (Some e) = Some e.value
 abbrev pub revalued : {K : Type 0} → Option (Entry K) → ℕ → Option (Entry K)
 revalued None value = None
 revalued (Some e) value = Some (record { key = e.key; value = value })
+
+abbrev pub without : {K : Type 0} → List (Option (Entry K)) → ℕ → ℕ → List (Option (Entry K))
+without vs hole last =
+    let emptied_hole = slice_set vs hole None in slice_set (slice_set emptied_hole last None) hole (slice_index_or emptied_hole last None)
 
 abbrev pub Sits : {K : Type 0} → (K → ℕ) → ℕ → ℕ → Option (Entry K) → Type 0
 Sits hash n b None = ⊥

@@ -1,3 +1,4 @@
 pub mod Chains
+pub mod Rules
 pub mod Maps
 pub mod Repeats

@@ -2,7 +2,7 @@
 //! which taken cell of its bucket comes next, a walk ends, and a cell's place in its chain is found by its number.
 
 ghost use Rattle.std.specs.Prelude.{◌≡◌, ◌<◌, length, Some, None, MatchOption, ◌≢◌, slice_index_or, slice_set};
-ghost use Rattle.cells.specs.Chains.{held, valued, revalued, no_cell, Kept, Holds, Lacks, Between, Hooked};
+ghost use Rattle.cells.specs.Chains.{held, valued, revalued, without, no_cell, Kept, Holds, Lacks, Between, Hooked};
 ghost use Rattle.cells.specs.Maps.{Empty};
 
 use crate::cell::{Cell, Entry, NO_CELL};
@@ -12,8 +12,8 @@ use keys::key::Key;
 pub(crate) fn seek<K: Key + Copy>(cells: &[Cell<K>], key: &K) -> Option<usize>
     requires { Kept K.hashed cells.now }
     ensures { MatchOption result
-        (Lacks K.same cells.now key.now)
-        (λ i. Holds K.same cells.now key.now i) }
+        (Lacks K.eq cells.now key.now)
+        (λ i. Holds K.eq cells.now key.now i) }
 {
     if cells.is_empty() {
         return None;
@@ -25,7 +25,7 @@ pub(crate) fn seek<K: Key + Copy>(cells: &[Cell<K>], key: &K) -> Option<usize>
         let Cell { entry, next, .. } = cell;
         match entry {
             Some(entry) => {
-                if entry.key.is_same(key) {
+                if entry.key == *key {
                     return Some(at);
                 }
             }
@@ -41,12 +41,7 @@ pub(crate) fn value_at<K: Copy>(cells: &[Cell<K>], at: usize) -> Option<u32>
     requires { at < length cells.now }
     ensures { result ≡ valued (slice_index_or (held cells.now) at None) }
 {
-    let cell = cells[at];
-    let Cell { entry, .. } = cell;
-    match entry {
-        Some(entry) => Some(entry.value),
-        None => None,
-    }
+    cells[at].entry.map(|entry| entry.value)
 }
 
 /// A place in a chain: after the cell `before`, or first in it, and before the cell `after`, or last.
@@ -128,6 +123,27 @@ pub(crate) fn give_up<K: Key + Copy>(cells: &mut [Cell<K>], f: usize) -> Option<
         }
         None => None,
     }
+}
+
+/// Takes the entry of the cell `hole` out, and moves that of the cell `last` there, so that the entries stay in the
+/// first cells. Where `hole` is the last cell itself, none is moved.
+pub(crate) fn take_out<K: Key + Copy>(
+    cells: &mut [Cell<K>],
+    hole: usize,
+    last: usize,
+) -> Option<Entry<K>>
+    requires kept { Kept K.hashed cells.old }
+    requires hole { hole < length cells.old }
+    requires last { last < length cells.old }
+    ensures kept { Kept K.hashed cells.new }
+    ensures held { held cells.new ≡ without (held cells.old) hole last }
+    ensures given { result ≡ slice_index_or (held cells.old) hole None }
+{
+    let gone = give_up(cells, hole);
+    if let Some(entry) = give_up(cells, last) {
+        put(cells, hole, entry);
+    }
+    gone
 }
 
 /// Puts another value under the key of the cell `at`.

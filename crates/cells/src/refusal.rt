@@ -1,8 +1,7 @@
-/// Why a call is refused.
-#[derive(Clone, Copy)]
-pub enum Refusal {
-    /// Every cell of the table holds another key.
-    Full,
-    /// The lent cells are fewer than the numbers to be held in them.
-    FewCells,
-}
+/// Every cell of the table holds another key.
+#[derive(Clone, Copy, Debug, PartialEq, Eq)]
+pub struct Full;
+
+/// The lent cells are fewer than the numbers to be held in them.
+#[derive(Clone, Copy, Debug, PartialEq, Eq)]
+pub struct FewCells;

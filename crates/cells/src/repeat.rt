@@ -1,10 +1,9 @@
 ghost use Rattle.std.specs.Prelude.{◌≡◌, ◌<◌, ◌≤◌, length, MatchOption, MatchResult};
-ghost use Rattle.keys.specs.Keys.{same_sector, sector_hash};
-ghost use Rattle.cells.specs.Maps.{size_of, lookup, Blank, Empty, Sound};
+ghost use Rattle.cells.specs.Maps.{size_of, lookup, Blank, Empty, SameCells};
 ghost use Rattle.cells.specs.Repeats.{Distinct, FirstRepeat};
 
 use crate::cell::Cell;
-use crate::refusal::Refusal;
+use crate::refusal::FewCells;
 use crate::table::Table;
 use keys::sector::SectorNumber;
 
@@ -13,15 +12,15 @@ use keys::sector::SectorNumber;
 pub fn find_repeat(
     cells: &mut [Cell<SectorNumber>],
     numbers: &[u32],
-) -> Result<Option<usize>, Refusal>
+) -> Result<Option<usize>, FewCells>
     ensures empty { Empty cells.new }
     ensures answer { MatchResult result
         (λ place. (length numbers.now ≤ length cells.old) × MatchOption place (Distinct numbers.now) (FirstRepeat numbers.now))
-        (λ e. (e ≡ Refusal.FewCells) × (length cells.old < length numbers.now)) }
+        (λ _. length cells.old < length numbers.now) }
 {
     let mut table = Table::new(cells);
     if table.capacity() < numbers.len() {
-        return Err(Refusal::FewCells);
+        return Err(FewCells);
     }
     let place = first_repeat(&mut table, numbers);
     table.clear();
@@ -30,12 +29,10 @@ pub fn find_repeat(
 
 /// Puts the numbers into an empty table, up to the first that is there already.
 fn first_repeat(table: &mut Table<SectorNumber>, numbers: &[u32]) -> Option<usize>
-    requires sound { Sound sector_hash same_sector table.old }
-    requires blank { Blank (lookup same_sector table.old) }
+    requires blank { Blank (lookup table.old) }
     requires count { table.old.count ≡ 0 }
     requires room { length numbers.now ≤ size_of table.old }
-    ensures lender { table.new.cells.ghost_name ≡ table.old.cells.ghost_name }
-    ensures size { size_of table.new ≡ size_of table.old }
+    ensures cells { SameCells table.old.cells table.new.cells }
     ensures place { MatchOption result (Distinct numbers.now) (FirstRepeat numbers.now) }
 {
     for (place, number) in numbers.iter().enumerate() {

@@ -1,6 +1,3 @@
-ghost use Rattle.keys.specs.Keys.{same_child, child_hash};
-ghost use Rattle.cells.specs.Maps.{Sound};
-
 use cells::cell::Cell;
 use cells::table::Table;
 use keys::child::ChildKey;
@@ -77,9 +74,7 @@ impl Measured {
     }
 
     /// Searches for the keys that are there, and for the next ones, which are not.
-    fn search_all(&mut self, table: &Table<ChildKey>, chains: &[u32], count: u32)
-        requires { Sound child_hash same_child table.now }
-    {
+    fn search_all(&mut self, table: &Table<ChildKey>, chains: &[u32], count: u32) {
         for n in 0..count {
             self.judge(table.find(&key_of(n)) == Some(n));
             let other = key_of(n.saturating_add(count));

@@ -1,6 +1,3 @@
-ghost use Rattle.keys.specs.Keys.{same_child, child_hash};
-ghost use Rattle.cells.specs.Maps.{Sound};
-
 use crate::plain::{Line, strike, value_of, write};
 use crate::random::Random;
 use crate::reach::key_of;
@@ -71,10 +68,7 @@ fn try_insert(
     key: u32,
     value: u32,
     tally: &mut Tally,
-) -> Result<(), AllocError>
-    requires { Sound child_hash same_child table.old }
-    ensures { Sound child_hash same_child table.new }
-{
+) -> Result<(), AllocError> {
     let room = lines.len() < table.capacity() || value_of(lines, key).is_some();
     if table.insert(key_of(key), value).is_ok() {
         tally.judge(room);
@@ -87,9 +81,7 @@ fn try_insert(
     Ok(())
 }
 
-fn try_find(table: &Table<ChildKey>, lines: &[Line], key: u32, tally: &mut Tally)
-    requires { Sound child_hash same_child table.now }
-{
+fn try_find(table: &Table<ChildKey>, lines: &[Line], key: u32, tally: &mut Tally) {
     let answer = table.find(&key_of(key));
     tally.judge(answer == value_of(lines, key));
     if answer.is_some() {
@@ -99,10 +91,7 @@ fn try_find(table: &Table<ChildKey>, lines: &[Line], key: u32, tally: &mut Tally
     }
 }
 
-fn try_remove(table: &mut Table<ChildKey>, lines: &mut Vec<Line>, key: u32, tally: &mut Tally)
-    requires { Sound child_hash same_child table.old }
-    ensures { Sound child_hash same_child table.new }
-{
+fn try_remove(table: &mut Table<ChildKey>, lines: &mut Vec<Line>, key: u32, tally: &mut Tally) {
     let answer = table.remove(&key_of(key));
     tally.judge(answer == value_of(lines, key));
     strike(lines, key);
@@ -121,10 +110,7 @@ fn try_call(
     key: u32,
     value: u32,
     tally: &mut Tally,
-) -> Result<(), AllocError>
-    requires { Sound child_hash same_child table.old }
-    ensures { Sound child_hash same_child table.new }
-{
+) -> Result<(), AllocError> {
     if pick % 4 == 0 {
         try_find(table, lines, key, tally);
         return Ok(());

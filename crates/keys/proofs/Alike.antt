@@ -1,5 +1,6 @@
 -- What the two functions of a child answer, and its hash as it is made.
 use Rattle.std.proofs.Common.{◌≡◌, ℕ, ◌+◌, ◌-◌, ◌<◌, ◌≤◌, min, Bool, true, false, List, length, take, sym, refl, ap, ◌∙◌, ⊎_elim, arith}
+use Rattle.std.specs.Bool.{one_answer}
 use Rattle.std.specs.Prelude.{Decides, ◌≢◌, slice_index}
 use Rattle.std.proofs.lemmas.List.{take_all}
 use Rattle.std.proofs.lemmas.List.Sums.{fold_more}
@@ -9,22 +10,16 @@ use Rattle.keys.specs.declared.child.ChildKey.{ChildKey}
 use Rattle.keys.specs.Keys.{seed, mixed, mixed_all, Child, child_of, same_child}
 use Rattle.keys.specs.Alike.{child_is, same_decides}
 
--- two answers to one question
-one_answer : (r s : Bool) (P : Type 0) → Decides r P → Decides s P → r ≡ s
-one_answer true s P d e = sym (e.1 (d.0 refl))
-one_answer false true P d e = d.1 (e.0 refl)
-one_answer false false P d e = refl
-
 pub told_other : (x y : ChildKey) → (child_of x ≢ child_of y) → (false ≡ same_child x y) × Decides false (child_of x ≡ child_of y)
 told_other x y differ =
     let d : Decides false (child_of x ≡ child_of y) = (λ h. absurd (both_ways true (sym h) refl), λ e. absurd (differ e)) in
-    (one_answer false (same_child x y) (child_of x ≡ child_of y) d (same_decides x y), d)
+    (one_answer false (same_child x y) d (same_decides x y), d)
 
 pub told_same : (x y : ChildKey) (r : Bool) → x.parent ≡ y.parent → (keyed x.name).units ≡ (keyed y.name).units → Decides r ((keyed x.name).folded ≡ (keyed y.name).folded) → (r ≡ same_child x y) × Decides r (child_of x ≡ child_of y)
 told_same x y r p u h =
     let kx : Key = keyed x.name in let ky : Key = keyed y.name in
     let d : Decides r (child_of x ≡ child_of y) = (λ t. child_is x.parent y.parent kx.units ky.units kx.folded ky.folded p u (h.0 t), λ e. h.1 (ap (λ (z : Child). z.name.folded) e)) in
-    (one_answer r (same_child x y) (child_of x ≡ child_of y) d (same_decides x y), d)
+    (one_answer r (same_child x y) d (same_decides x y), d)
 
 -- a part of an array that ends with it, however much is asked for
 pub take_capped : (n m : ℕ) (xs : List ℕ) → length xs ≡ 31 → m ≡ min n 31 → take (m - 0) xs ≡ take n xs

@@ -1,7 +1,9 @@
--- When two children are the same, and that their hashes are then equal.
+-- When two children are the same, that this is an equivalence, and that their hashes are then equal.
 use Rattle.std.specs.Prelude.{◌≡◌, ℕ, Bool, true, false, ◌&&◌, List, Decides, ◌==◌, refl}
-use Rattle.std.proofs.Common.{sym, ap, ap₂, eq-eqb, eqb-true}
+use Rattle.std.proofs.Common.{sym, ap, ap₂, ◌∙◌, eq-eqb, eqb-true}
 use Rattle.std.specs.Str.{bytes_eq}
+use Rattle.std.specs.Cmp.{IsEquivalence}
+use Rattle.std.specs.Bool.{one_answer}
 use Rattle.std.proofs.lemmas.Slice.Eq.{bytes_eq-Decides}
 use Rattle.std.proofs.lemmas.Bool.{both_ways, and_from}
 use Rattle.names.specs.Keys.{Key, keyed}
@@ -25,6 +27,13 @@ same_decides x y =
       λ e. let p = eq-eqb x.parent y.parent (ap (λ (z : Child). z.parent) e) in let u = eq-eqb kx.units ky.units (ap (λ (z : Child). z.name.units) e) in
           and_from _ _ p (and_from _ _ u ((bytes_eq-Decides kx.folded ky.folded).1 (ap (λ (z : Child). z.name.folded) e))),
     )
+
+pub child_equiv : IsEquivalence same_child
+child_equiv = record {
+  refl = λ x. (same_decides x x).1 refl;
+  symm = λ x y. let d = same_decides y x in one_answer {P = child_of x ≡ child_of y} _ _ (same_decides x y) (λ h. sym (d.0 h), λ e. d.1 (sym e));
+  congr = λ x y z h. let e = (same_decides x y).0 h in let d = same_decides y z in one_answer {P = child_of x ≡ child_of z} _ _ (same_decides x z) (λ t. e ∙ d.0 t, λ u. d.1 (sym e ∙ u));
+}
 
 pub same_hash : (x y : ChildKey) → child_of x ≡ child_of y → child_hash x ≡ child_hash y
 unfolding child_hash

@@ -1,8 +1,8 @@
-ghost use Rattle.std.specs.Prelude.{◌≡◌, ◌&&◌, Decides, ◌==◌, refl};
-ghost use Rattle.std.proofs.Common.{sym, ◌∙◌};
+ghost use Rattle.std.specs.Prelude.{◌≡◌, ◌&&◌, Decides, ◌==◌};
+ghost use Rattle.std.specs.Cmp.{partial_equiv_from_equiv};
 ghost use Rattle.names.specs.Keys.{keyed};
 ghost use Rattle.keys.specs.Keys.{seed, mixed, same_child, child_hash, child_of};
-ghost use Rattle.keys.specs.Alike.{same_decides, same_hash};
+ghost use Rattle.keys.specs.Alike.{child_equiv, same_decides, same_hash};
 
 use crate::hashing::{SEED, mix};
 use crate::key::Key;
@@ -37,20 +37,12 @@ fn head_hash(parent: u32, unit_count: u8) -> u32
     mix(mix(SEED, parent), u32::from(unit_count))
 }
 
-impl Key for ChildKey {
-    ghost same = { λ x y. same_child x y };
+impl PartialEq for ChildKey {
+    ghost eq = { λ x y. same_child x y };
 
-    ghost hashed = { λ x. child_hash x };
+    ghost laws = { partial_equiv_from_equiv child_equiv };
 
-    ghost reflects = { λ x. (same_decides x x).1 refl };
-
-    ghost turns = { λ x y h. (same_decides y x).1 (sym ((same_decides x y).0 h)) };
-
-    ghost joins = { λ x y z h k. (same_decides x z).1 ((same_decides x y).0 h ∙ (same_decides y z).0 k) };
-
-    ghost agrees = { λ x y h. same_hash x y ((same_decides x y).0 h) };
-
-    fn is_same(&self, other: &ChildKey) -> bool
+    fn eq(&self, other: &ChildKey) -> bool
         ensures tells { result ≡ same_child self.now other.now }
         ensures means { Decides result (child_of self.now ≡ child_of other.now) }
     {
@@ -59,6 +51,16 @@ impl Key for ChildKey {
         }
         folded_codes(&self.name) == folded_codes(&other.name)
     }
+}
+
+impl Eq for ChildKey {
+    ghost laws = { child_equiv };
+}
+
+impl Key for ChildKey {
+    ghost hashed = { λ x. child_hash x };
+
+    ghost agrees = { λ x y h. same_hash x y ((same_decides x y).0 h) };
 
     fn hash(&self) -> u32 {
         let mut hash = head_hash(self.parent, self.name.unit_count);

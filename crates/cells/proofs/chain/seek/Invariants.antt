@@ -3,7 +3,7 @@ use Rattle.cells.specs.Chains.{Passed}
 use Rattle.cells.proofs.chain.seek.Given as goal
 
 abbrev pub invariant-loop-at : goal.invariant-loop-at
-invariant-loop-at g l = Passed g.K.Key.same g.K.Key.hashed l.cells l.key l.at
+invariant-loop-at g l = Passed g.K.PartialEq.eq g.K.Key.hashed l.cells l.key l.at
 
 abbrev pub decreases-loop-at : goal.decreases-loop-at
 decreases-loop-at g l = length l.cells - l.at

@@ -1,38 +1,52 @@
 use Rattle.std.proofs.Common.{sym, refl, arith}
 use Rattle.cells.specs.Maps.{lookup}
 use Rattle.cells.proofs.Entries.{none_of}
-use Rattle.cells.proofs.Lookups.{lawful}
 use Rattle.cells.proofs.Tables.{insert_there, insert_new, no_value, size_held}
+use Rattle.cells.proofs.Unwrapped.{unwrap}
 use Rattle.cells.proofs.table.Table.insert.Goals as goal
 
-pub returns-then-free-self : goal.returns-then-free-self
+pub replace-requires-clause-kept : goal.replace-requires-clause-kept
+replace-requires-clause-kept g c = (unwrap g.K.Key.hashed g.K.PartialEq.eq _ _ c.args.self.now.sound).kept
+
+pub invariant_of-self : goal.invariant_of-self
+invariant_of-self g c =
+    let sound = unwrap g.K.Key.hashed g.K.PartialEq.eq _ _ c.args.self.now.sound in
+    record { sound = ∣ (insert_there g.K.Key.hashed g.K.PartialEq.eq g.met.K.Eq.laws _ _ sound _ _ c.in-Some.ensures _ _ c.replace.ensures.kept c.replace.ensures.held).0 ∣₁ }
+
+pub returns-then-free-self-clause-answer : goal.returns-then-free-self-clause-answer
 unfolding lookup
-returns-then-free-self g c =
-    let laws = lawful {same = g.K.Key.same} g.met.K.Key.reflects g.met.K.Key.turns g.met.K.Key.joins in
-    record { sound = c.requires; lender = refl; size = refl; answer = (refl, record { absent = sym (no_value g.K.Key.hashed g.K.Key.same laws _ _ c.requires _ c.in-None.ensures); full = c.if-free-self.true; stays = refl; counts = refl }) }
+returns-then-free-self-clause-answer g c =
+    let sound = unwrap g.K.Key.hashed g.K.PartialEq.eq _ _ c.args.self.now.sound in
+    record { absent = sym (no_value g.K.Key.hashed g.K.PartialEq.eq g.met.K.Eq.laws _ _ sound _ c.in-None.ensures); full = c.if-free-self.true; stays = refl; counts = refl }
 
 pub put-requires : goal.put-requires
 put-requires g c =
-    let laws = lawful {same = g.K.Key.same} g.met.K.Key.reflects g.met.K.Key.turns g.met.K.Key.joins in
-    let s = size_held g.K.Key.hashed g.K.Key.same laws _ _ c.requires in
-    record { kept = c.requires.kept; inside = let l = c.if-free-self.false in omega arith; free = none_of _ (c.requires.dense.free _ (omega arith)) }
+    let sound = unwrap g.K.Key.hashed g.K.PartialEq.eq _ _ c.args.self.now.sound in
+    let s = size_held g.K.Key.hashed g.K.PartialEq.eq g.met.K.Eq.laws _ _ sound in
+    record { kept = sound.kept; inside = let l = c.if-free-self.false in omega arith; free = none_of _ (sound.dense.free _ (omega arith)) }
 
 pub overflow_add-self : goal.overflow_add-self
 overflow_add-self g c =
-    let laws = lawful {same = g.K.Key.same} g.met.K.Key.reflects g.met.K.Key.turns g.met.K.Key.joins in
-    let s = size_held g.K.Key.hashed g.K.Key.same laws _ _ c.requires in let l = c.if-free-self.false in omega arith
+    let sound = unwrap g.K.Key.hashed g.K.PartialEq.eq _ _ c.args.self.now.sound in
+    let s = size_held g.K.Key.hashed g.K.PartialEq.eq g.met.K.Eq.laws _ _ sound in let l = c.if-free-self.false in omega arith
 
-pub returns-in-Some : goal.returns-in-Some
-unfolding lookup
-returns-in-Some g c =
-    let laws = lawful {same = g.K.Key.same} g.met.K.Key.reflects g.met.K.Key.turns g.met.K.Key.joins in
-    let d = insert_there g.K.Key.hashed g.K.Key.same laws _ _ c.requires _ _ c.in-Some.ensures _ _ c.replace.ensures.kept c.replace.ensures.held in
-    record { sound = d.0; lender = refl; size = c.replace.auto.cells; answer = record { puts = d.1; counts = d.2 } }
+pub invariant_of-self-in-None : goal.invariant_of-self-in-None
+invariant_of-self-in-None g c =
+    let sound = unwrap g.K.Key.hashed g.K.PartialEq.eq _ _ c.args.self.now.sound in
+    let s = size_held g.K.Key.hashed g.K.PartialEq.eq g.met.K.Eq.laws _ _ sound in let l = c.if-free-self.false in
+    record { sound = ∣ (insert_new g.K.Key.hashed g.K.PartialEq.eq g.met.K.Eq.laws _ _ sound _ c.in-None.ensures _ _ (omega arith) c.put.ensures.kept c.put.ensures.held).0 ∣₁ }
 
-pub returns-else-free-self : goal.returns-else-free-self
+pub returns-in-Some-clause-answer : goal.returns-in-Some-clause-answer
 unfolding lookup
-returns-else-free-self g c =
-    let laws = lawful {same = g.K.Key.same} g.met.K.Key.reflects g.met.K.Key.turns g.met.K.Key.joins in
-    let s = size_held g.K.Key.hashed g.K.Key.same laws _ _ c.requires in let l = c.if-free-self.false in
-    let d = insert_new g.K.Key.hashed g.K.Key.same laws _ _ c.requires _ c.in-None.ensures _ _ (omega arith) c.put.ensures.kept c.put.ensures.held in
-    record { sound = d.0; lender = refl; size = c.put.auto.cells; answer = record { puts = d.1; counts = d.2 } }
+returns-in-Some-clause-answer g c =
+    let sound = unwrap g.K.Key.hashed g.K.PartialEq.eq _ _ c.args.self.now.sound in
+    let d = insert_there g.K.Key.hashed g.K.PartialEq.eq g.met.K.Eq.laws _ _ sound _ _ c.in-Some.ensures _ _ c.replace.ensures.kept c.replace.ensures.held in
+    record { puts = d.1; counts = d.2 }
+
+pub returns-else-free-self-clause-answer : goal.returns-else-free-self-clause-answer
+unfolding lookup
+returns-else-free-self-clause-answer g c =
+    let sound = unwrap g.K.Key.hashed g.K.PartialEq.eq _ _ c.args.self.now.sound in
+    let s = size_held g.K.Key.hashed g.K.PartialEq.eq g.met.K.Eq.laws _ _ sound in let l = c.if-free-self.false in
+    let d = insert_new g.K.Key.hashed g.K.PartialEq.eq g.met.K.Eq.laws _ _ sound _ c.in-None.ensures _ _ (omega arith) c.put.ensures.kept c.put.ensures.held in
+    record { puts = d.1; counts = d.2 }

@@ -1,33 +1,37 @@
-use Rattle.std.proofs.Common.{sym, refl, ◌∙◌, arith}
+use Rattle.std.proofs.Common.{◌≡◌, refl, ap, ◌∙◌, arith, rules}
+use Rattle.cells.specs.Chains.{valued}
 use Rattle.cells.specs.Maps.{lookup}
-use Rattle.cells.proofs.Lookups.{lawful}
-use Rattle.cells.proofs.Tables.{below_count, hole_there, no_value, remove_none, remove_there, size_held, value_taken}
+use Rattle.cells.proofs.Tables.{below_count, no_value, remove_none, remove_there, size_held, value_there}
+use Rattle.cells.proofs.Unwrapped.{unwrap}
 use Rattle.cells.proofs.table.Table.remove.Goals as goal
 
 pub returns-in_err-at : goal.returns-in_err-at
 unfolding lookup
 returns-in_err-at g c =
-    let laws = lawful {same = g.K.Key.same} g.met.K.Key.reflects g.met.K.Key.turns g.met.K.Key.joins in
-    let d = remove_none g.K.Key.hashed g.K.Key.same laws _ _ c.requires _ c.in_err-at.ensures in
-    record { sound = c.requires; lender = refl; size = refl; answer = c.from_residual.ensures ∙ no_value g.K.Key.hashed g.K.Key.same laws _ _ c.requires _ c.in_err-at.ensures; drops = d.0; counts = d.1 }
+    let sound = unwrap g.K.Key.hashed g.K.PartialEq.eq _ _ c.args.self.now.sound in
+    let d = remove_none g.K.Key.hashed g.K.PartialEq.eq g.met.K.Eq.laws _ _ sound _ c.in_err-at.ensures in
+    record { cells = record { lender = refl; size = refl }; answer = c.from_residual.ensures ∙ no_value g.K.Key.hashed g.K.PartialEq.eq g.met.K.Eq.laws _ _ sound _ c.in_err-at.ensures; drops = d.0; counts = d.1 }
 
-pub fill-requires : goal.fill-requires
-fill-requires g c =
-    let laws = lawful {same = g.K.Key.same} g.met.K.Key.reflects g.met.K.Key.turns g.met.K.Key.joins in
-    let h = below_count g.K.Key.hashed g.K.Key.same laws _ _ c.requires _ _ c.in_ok-at.ensures in
-    let s = size_held g.K.Key.hashed g.K.Key.same laws _ _ c.requires in let n = c.give_up-gone.auto.cells in
-    record { kept = c.give_up-gone.ensures.kept; hole = omega arith; last = omega arith; free = hole_there g.K.Key.hashed g.K.Key.same laws _ _ c.requires _ _ c.in_ok-at.ensures _ c.give_up-gone.ensures.held }
+pub overflow_sub-last : goal.overflow_sub-last
+overflow_sub-last g c =
+    let sound = unwrap g.K.Key.hashed g.K.PartialEq.eq _ _ c.args.self.now.sound in
+    let h = below_count g.K.Key.hashed g.K.PartialEq.eq g.met.K.Eq.laws _ _ sound _ _ c.in_ok-at.ensures in omega arith
 
-pub returns-in-Some : goal.returns-in-Some
+pub take_out-gone-requires : goal.take_out-gone-requires
+take_out-gone-requires g c =
+    let sound = unwrap g.K.Key.hashed g.K.PartialEq.eq _ _ c.args.self.now.sound in
+    let h = below_count g.K.Key.hashed g.K.PartialEq.eq g.met.K.Eq.laws _ _ sound _ _ c.in_ok-at.ensures in
+    let s = size_held g.K.Key.hashed g.K.PartialEq.eq g.met.K.Eq.laws _ _ sound in
+    record { kept = sound.kept; hole = c.in_ok-at.ensures.inside; last = omega arith }
+
+pub invariant_of-self : goal.invariant_of-self
+invariant_of-self g c =
+    let sound = unwrap g.K.Key.hashed g.K.PartialEq.eq _ _ c.args.self.now.sound in
+    record { sound = ∣ (remove_there g.K.Key.hashed g.K.PartialEq.eq g.met.K.Eq.laws _ _ sound _ _ c.in_ok-at.ensures _ c.take_out-gone.ensures.kept c.take_out-gone.ensures.held).0 ∣₁ }
+
+pub returns : goal.returns
 unfolding lookup
-returns-in-Some g c =
-    let laws = lawful {same = g.K.Key.same} g.met.K.Key.reflects g.met.K.Key.turns g.met.K.Key.joins in
-    let d = remove_there g.K.Key.hashed g.K.Key.same laws _ _ c.requires _ _ c.in_ok-at.ensures _ _ c.give_up-gone.ensures.held c.fill.ensures.kept c.fill.ensures.held in
-    record {
-      sound = d.0;
-      lender = refl;
-      size = c.fill.auto.cells ∙ c.give_up-gone.auto.cells;
-      answer = value_taken g.K.Key.hashed g.K.Key.same laws _ _ c.requires _ _ c.in_ok-at.ensures _ (sym c.in-Some.is ∙ c.give_up-gone.ensures.given);
-      drops = d.1;
-      counts = d.2;
-    }
+returns g c =
+    let sound = unwrap g.K.Key.hashed g.K.PartialEq.eq _ _ c.args.self.now.sound in
+    let d = remove_there g.K.Key.hashed g.K.PartialEq.eq g.met.K.Eq.laws _ _ sound _ _ c.in_ok-at.ensures _ c.take_out-gone.ensures.kept c.take_out-gone.ensures.held in
+    record { cells = record { lender = refl; size = c.take_out-gone.auto.cells }; answer = value_there g.K.Key.hashed g.K.PartialEq.eq g.met.K.Eq.laws _ _ sound _ _ c.in_ok-at.ensures _ (let taken : c.map.result ≡ valued c.take_out-gone.result = search rules in taken ∙ ap valued c.take_out-gone.ensures.given); drops = d.1; counts = d.2 }

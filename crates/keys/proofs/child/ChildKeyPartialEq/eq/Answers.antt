@@ -4,7 +4,7 @@ use Rattle.std.proofs.lemmas.Bool.{and_from, and_parts, both_ways, eq-eqb, eqb-t
 use Rattle.names.specs.Keys.{keyed}
 use Rattle.keys.specs.Keys.{Child}
 use Rattle.keys.proofs.Alike.{told_same, told_other}
-use Rattle.keys.proofs.child.ChildKeyKey.is_same.Goals as goal
+use Rattle.keys.proofs.child.ChildKeyPartialEq.eq.Goals as goal
 use Rattle.std.proofs.lemmas.Bool.Decides.{Decides-eqb}
 
 decides_moved : (r : Bool) {xs ys us vs : List ℕ} → Decides r (xs ≡ ys) → xs ≡ us → ys ≡ vs → Decides r (us ≡ vs)
