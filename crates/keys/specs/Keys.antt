@@ -11,8 +11,7 @@
 -- sector_hash the hash of a sector number
 
 use Rattle.std.specs.Prelude.{ℕ, ◌*◌, ◌/◌, ◌%◌, Bool, ◌&&◌, List, fold, ◌==◌, bit_xor}
-use Rattle.std.specs.Str.{bytes_eq}
-use Rattle.names.specs.Keys.{Key, keyed}
+use Rattle.names.specs.Keys.{Key, keyed, same_key}
 use Rattle.keys.specs.declared.child.ChildKey.{ChildKey}
 use Rattle.keys.specs.declared.sector.SectorNumber.{SectorNumber}
 
@@ -32,11 +31,10 @@ pub record Child : Type 0 where
 abbrev pub child_of : ChildKey → Child
 child_of k = record { parent = k.parent; name = keyed k.name }
 
-unfoldable pub same_child : ChildKey → ChildKey → Bool
-same_child x y =
-    (x.parent == y.parent) && ((keyed x.name).units == (keyed y.name).units && bytes_eq (keyed x.name).folded (keyed y.name).folded)
+abbrev pub same_child : ChildKey → ChildKey → Bool
+same_child x y = (x.parent == y.parent) && same_key x.name y.name
 
-unfoldable pub child_hash : ChildKey → ℕ
+abbrev pub child_hash : ChildKey → ℕ
 child_hash k = mixed_all (mixed (mixed seed k.parent) (keyed k.name).units) (keyed k.name).folded
 
 abbrev pub same_sector : SectorNumber → SectorNumber → Bool

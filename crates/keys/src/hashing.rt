@@ -9,6 +9,7 @@ const SPREAD: u32 = 0x9e37_79b1;
 
 /// A hash with one more number mixed in. The shift brings the higher bits back to the lower ones, which decide
 /// the bucket where the number of cells is a power of two.
+#[tactic(auto, unfolding(crate::specs::Keys::mixed))]
 pub(crate) fn mix(hash: u32, number: u32) -> u32
     ensures { result ≡ mixed hash number }
 {

@@ -1,7 +1,7 @@
 ghost use Rattle.std.specs.Prelude.{◌≡◌, ℕ, true};
 
 /// What a kind of key gives so that a table can hold it: an equality, and a hash that agrees with it.
-// `hash` is no `std::hash::Hash`: one number goes to the next in a word, and no state is fed by bytes.
+// No `std::hash::Hash`: a table needs one number of a key, and a `Hasher` would put a state and its laws between.
 pub trait Key: Eq {
     ghost hashed: { Self → ℕ };
 

@@ -1,6 +1,6 @@
 ghost use Rattle.std.specs.Prelude.{Decides, ◌≡◌};
-ghost use Rattle.std.proofs.Common.{ap, eqb-true};
-ghost use Rattle.keys.specs.Keys.{seed, mixed, sector_hash};
+ghost use Rattle.std.proofs.Common.{rules};
+ghost use Rattle.keys.specs.Keys.{same_sector, sector_hash};
 
 use crate::hashing::{SEED, mix};
 use crate::key::Key;
@@ -10,9 +10,9 @@ use crate::key::Key;
 pub struct SectorNumber(pub u32);
 
 impl Key for SectorNumber {
-    ghost hashed = { λ x. sector_hash x };
+    ghost hashed = { sector_hash };
 
-    ghost agrees = { λ x y h. ap (mixed seed) (eqb-true x.0 y.0 h) };
+    ghost agrees = { Prim.search rules };
 
     fn hash(&self) -> u32 {
         mix(SEED, self.0)
@@ -21,6 +21,6 @@ impl Key for SectorNumber {
 
 /// Two keys are equal exactly where they stand for one sector.
 pub fn sectors_are_told(left: &SectorNumber, right: &SectorNumber)
-    ensures { Decides (⟦<SectorNumber as PartialEq>⟧.eq left.now right.now) (left.now.0 ≡ right.now.0) }
-{
-}
+    ensures tells { ⟦<SectorNumber as PartialEq>⟧.eq left.now right.now ≡ same_sector left.now right.now }
+    ensures means { Decides (⟦<SectorNumber as PartialEq>⟧.eq left.now right.now) (left.now.0 ≡ right.now.0) }
+{}
