@@ -11,23 +11,23 @@ module _ {K : Type 0} where
   held_read cells i c h e = get_or-map (λ (x : Cell K). x.entry) cells i c None h ∙ ap (λ (x : Cell K). x.entry) (sym e)
 
   pub head_read : (cells : List (Cell K)) (i : ℕ) (c : Cell K) → i < length cells → c ≡ get_or cells i c → head_at cells i ≡ c.head
-  head_read cells i c h e = get_or-map (λ (x : Cell K). x.head) cells i c 0 h ∙ ap (λ (x : Cell K). x.head) (sym e)
+  head_read cells i c h e = get_or-map (λ (x : Cell K). x.head) cells i c None h ∙ ap (λ (x : Cell K). x.head) (sym e)
 
   pub next_read : (cells : List (Cell K)) (i : ℕ) (c : Cell K) → i < length cells → c ≡ get_or cells i c → next_at cells i ≡ c.next
-  next_read cells i c h e = get_or-map (λ (x : Cell K). x.next) cells i c 0 h ∙ ap (λ (x : Cell K). x.next) (sym e)
+  next_read cells i c h e = get_or-map (λ (x : Cell K). x.next) cells i c None h ∙ ap (λ (x : Cell K). x.next) (sym e)
 
   pub length-held : (cells : List (Cell K)) → length (held cells) ≡ length cells
   length-held cells = length-map cells (λ (x : Cell K). x.entry)
 
   -- one field of one cell is written
   pub heads_set : (cells : List (Cell K)) (i : ℕ) (c : Cell K) (j : ℕ) → (j ≡ i → ⊥) → head_at (set cells i c) j ≡ head_at cells j
-  heads_set cells i c j ne = ap (λ l. get_or l j 0) (map-set (λ (x : Cell K). x.head) cells i c) ∙ get_or-set_other (map (λ (x : Cell K). x.head) cells) i j c.head 0 ne
+  heads_set cells i c j ne = ap (λ l. get_or l j None) (map-set (λ (x : Cell K). x.head) cells i c) ∙ get_or-set_other (map (λ (x : Cell K). x.head) cells) i j c.head None ne
 
   pub head_set : (cells : List (Cell K)) (i : ℕ) (c : Cell K) → i < length cells → head_at (set cells i c) i ≡ c.head
-  head_set cells i c h = ap (λ l. get_or l i 0) (map-set (λ (x : Cell K). x.head) cells i c) ∙ get_or-set_same (map (λ (x : Cell K). x.head) cells) i c.head 0 (rw (length-map cells (λ (x : Cell K). x.head)) h)
+  head_set cells i c h = ap (λ l. get_or l i None) (map-set (λ (x : Cell K). x.head) cells i c) ∙ get_or-set_same (map (λ (x : Cell K). x.head) cells) i c.head None (rw (length-map cells (λ (x : Cell K). x.head)) h)
 
   pub nexts_set : (cells : List (Cell K)) (i : ℕ) (c : Cell K) (j : ℕ) → (j ≡ i → ⊥) → next_at (set cells i c) j ≡ next_at cells j
-  nexts_set cells i c j ne = ap (λ l. get_or l j 0) (map-set (λ (x : Cell K). x.next) cells i c) ∙ get_or-set_other (map (λ (x : Cell K). x.next) cells) i j c.next 0 ne
+  nexts_set cells i c j ne = ap (λ l. get_or l j None) (map-set (λ (x : Cell K). x.next) cells i c) ∙ get_or-set_other (map (λ (x : Cell K). x.next) cells) i j c.next None ne
 
   pub next_set : (cells : List (Cell K)) (i : ℕ) (c : Cell K) → i < length cells → next_at (set cells i c) i ≡ c.next
-  next_set cells i c h = ap (λ l. get_or l i 0) (map-set (λ (x : Cell K). x.next) cells i c) ∙ get_or-set_same (map (λ (x : Cell K). x.next) cells) i c.next 0 (rw (length-map cells (λ (x : Cell K). x.next)) h)
+  next_set cells i c h = ap (λ l. get_or l i None) (map-set (λ (x : Cell K). x.next) cells i c) ∙ get_or-set_same (map (λ (x : Cell K). x.next) cells) i c.next None (rw (length-map cells (λ (x : Cell K). x.next)) h)

@@ -1,5 +1,5 @@
 -- A table's rules and its map after one of its calls.
-use Rattle.std.proofs.Common.{◌≡◌, ℕ, ◌+◌, ◌-◌, ◌<◌, ◌≤◌, Bool, List, length, get_or, set, is_some, Some, None, Option, sym, ap, ◌∙◌, subst, inl, ⊎_elim, arith}
+use Rattle.std.proofs.Common.{◌≡◌, ℕ, ◌+◌, ◌-◌, ◌<◌, ◌≤◌, Bool, List, length, get_or, set, is_some, Some, None, Option, sym, ap, ◌∙◌, subst, ⊎_elim, arith}
 use Rattle.std.specs.Cmp.{IsEquivalence}
 use Rattle.std.proofs.lemmas.List.{get_or-map, get_or_past, set-get_or, set-set, get_or-set_other}
 use Rattle.std.proofs.lemmas.Bool.{cases_lt, cases_eq}
@@ -8,7 +8,7 @@ use Rattle.cells.specs.declared.cell.Cell.{Cell}
 use Rattle.cells.specs.Chains.{emptied, held, valued, revalued, without, Sits, Kept, Holds, Lacks}
 use Rattle.cells.specs.Rules.{Rules}
 use Rattle.cells.specs.Maps.{value_in, Puts, Drops, Blank, with_key, without_key, Empty}
-use Rattle.cells.proofs.Links.{link}
+use Rattle.cells.proofs.Links.{clash}
 use Rattle.cells.proofs.Fields.{length-held}
 use Rattle.cells.proofs.Entries.{some_none, At, set_here}
 use Rattle.cells.proofs.Lookups.{find_none}
@@ -46,7 +46,10 @@ module _ {K : Type 0} (hash : K → ℕ) (same : K → K → Bool) (laws : IsEqu
   empty_rules = record {
     kept = record {
       chained = record {
-        heads = λ b h. link (inl (get_or-map (λ (x : Cell K). x.head) cells b emptied 0 h ∙ ap (λ (x : Cell K). x.head) (all b emptied h))) (λ j _ _ s. no_one b j s);
+        heads = λ b h. record {
+          stands = λ i e. absurd (clash (get_or-map (λ (x : Cell K). x.head) cells b emptied None h ∙ ap (λ (x : Cell K). x.head) (all b emptied h)) e);
+          first = λ j _ _ s. no_one b j s;
+        };
         nexts = λ i e q. absurd (nothing i e q);
       };
     };

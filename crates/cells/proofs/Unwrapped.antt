@@ -16,14 +16,14 @@ sits_prop : {K : Type 0} (hash : K → ℕ) (n b : ℕ) (o : Option (Entry K)) �
 sits_prop hash n b None p q = absurd p
 sits_prop hash n b (Some e) p q = ℕ_set (hash e.key % n) b p q
 
-link_prop : (p : ℕ → Type 0) (from x : ℕ) → ((j : ℕ) → IsProp (p j)) → IsProp (Link p from x)
+link_prop : (p : ℕ → Type 0) (from : ℕ) (x : Option ℕ) → ((j : ℕ) → IsProp (p j)) → IsProp (Link p from x)
 link_prop p from x each l m = λ i. record {
-  stands = λ ne. (le_prop (l.stands ne).0 (m.stands ne).0 i, each x (l.stands ne).1 (m.stands ne).1 i);
+  stands = λ j e. (le_prop (l.stands j e).0 (m.stands j e).0 i, each j (l.stands j e).1 (m.stands j e).1 i);
   first = λ j a b h. absurd_prop (l.first j a b h) (m.first j a b h) i;
 }
 
 module _ {K : Type 0} (hash : K → ℕ) (same : K → K → Bool) (cells : List (Cell K)) (count : ℕ) where
-  chained_prop : (n : ℕ) (v : ℕ → Option (Entry K)) (H N : ℕ → ℕ) → IsProp (Chained hash n v H N)
+  chained_prop : (n : ℕ) (v : ℕ → Option (Entry K)) (H N : ℕ → Option ℕ) → IsProp (Chained hash n v H N)
   chained_prop n v H N l m = λ i. record {
     heads = λ b h. link_prop (λ j. Sits hash n b (v j)) 0 (H b) (λ j. sits_prop hash n b (v j)) (l.heads b h) (m.heads b h) i;
     nexts = λ k e q. link_prop (λ j. Sits hash n (hash e.key % n) (v j)) _ (N k) (λ j. sits_prop hash n (hash e.key % n) (v j)) (l.nexts k e q) (m.nexts k e q) i;

@@ -1,12 +1,14 @@
 -- A walk along the chain of a key meets every cell that could hold the key.
-use Rattle.std.proofs.Common.{◌≡◌, ℕ, ◌+◌, ◌-◌, ◌%◌, ◌<◌, ◌≤◌, Bool, true, false, List, length, get_or, Some, None, Option, sym, ap, ◌∙◌, subst, inl, inr, ⊎_elim, arith}
+use Rattle.std.proofs.Common.{◌≡◌, ℕ, ◌+◌, ◌-◌, ◌%◌, ◌^◌, ◌<◌, ◌≤◌, Bool, true, false, List, length, get_or, Some, None, Option, sym, ap, ◌∙◌, subst, ⊎_elim, arith}
 use Rattle.std.proofs.lemmas.List.{get_or_past}
 use Rattle.std.proofs.lemmas.Bool.{cases_lt, cases_eq}
 use Rattle.cells.specs.declared.cell.Entry.{Entry}
 use Rattle.cells.specs.declared.cell.Cell.{Cell}
-use Rattle.cells.specs.Chains.{no_cell, held, Sits, In, Link, Kept, Holds, Lacks, Passed}
-use Rattle.cells.proofs.Links.{ends}
+use Rattle.cells.specs.Chains.{end_of, held, Sits, In, Link, Kept, Holds, Lacks, Passed}
+use Rattle.cells.proofs.Entries.{both}
+use Rattle.cells.proofs.Links.{some_is, ends}
 use Rattle.cells.proofs.Fields.{held_read, head_read, next_read, length-held}
+use Rattle.cells.proofs.Gaps.{sits_entry}
 
 module _ {K : Type 0} where
   sits_some : (hash : K → ℕ) (n b : ℕ) (o : Option (Entry K)) → Sits hash n b o → o ≡ None → ⊥
@@ -21,9 +23,6 @@ module _ {K : Type 0} where
   pub in_made : (hash : K → ℕ) (n b : ℕ) (o : Option (Entry K)) (e : Entry K) → o ≡ Some e → hash e.key % n ≡ b → Sits hash n b o
   in_made hash n b o e q h = rw q h
 
-  pub in_bucket : (hash : K → ℕ) (n b : ℕ) (o : Option (Entry K)) (e : Entry K) → o ≡ Some e → Sits hash n b o → hash e.key % n ≡ b
-  in_bucket hash n b o e q h = rw q at h
-
 module _ {K : Type 0} (same : K → K → Bool) (hash : K → ℕ) (agrees : (x y : K) → same x y ≡ true → hash x ≡ hash y) where
   -- a cell with a key like k is in the bucket of k
   alike_in : (cells : List (Cell K)) (k : K) (j : ℕ) (e : Entry K) → get_or (held cells) j None ≡ Some e → same e.key k ≡ true → In hash cells (hash k % length cells) j
@@ -34,37 +33,34 @@ module _ {K : Type 0} (same : K → K → Bool) (hash : K → ℕ) (agrees : (x 
       let b : ℕ = h % length cells in
       let bk : h % length cells ≡ hash k % length cells = ap (λ x. x % length cells) q in
       let l : Link (In hash cells (hash k % length cells)) 0 c.head = subst (λ x. Link (In hash cells x) 0 c.head) bk (subst (λ x. Link (In hash cells b) 0 x) (head_read cells b c below e) (kept.chained.heads b below)) in
-      subst (λ (y : Cell K). Passed same hash cells k y.head) e (record { stands = ⊎_elim inl (λ p. inr p.1) (ends l); none = λ j x lt here a. l.first j (omega arith) lt (alike_in cells k j x here a) })
+      subst (λ (y : Cell K). Passed same hash cells k y.head) e (record { stands = λ i s. (l.stands i s).1; none = λ j x lt here a. l.first j (omega arith) lt (alike_in cells k j x here a) })
 
-  pub passed_inside : (cells : List (Cell K)) (k : K) (at : ℕ) → Passed same hash cells k at → (at ≡ no_cell → ⊥) → at < length cells
-  passed_inside cells k at p ne = ⊎_elim (λ z. absurd (ne z)) (in_inside hash cells _ at) p.stands
+  pub passed_inside : (cells : List (Cell K)) (k : K) (at : Option ℕ) (i : ℕ) → Passed same hash cells k at → at ≡ Some i → i < length cells
+  passed_inside cells k at i p is = in_inside hash cells _ i (p.stands i is)
 
-  pub passed_some : (cells : List (Cell K)) (k : K) (at : ℕ) (c : Cell K) → Passed same hash cells k at → (at ≡ no_cell → ⊥) → c ≡ get_or cells at c → c.entry ≡ None → ⊥
-  passed_some cells k at c p ne e z =
-      let inside = passed_inside cells k at p ne in
-      ⊎_elim ne (λ s. sits_some hash (length cells) _ (get_or (held cells) at None) s (held_read cells at c inside e ∙ z)) p.stands
-
-  pub passed_next : (cells : List (Cell K)) (k : K) (at : ℕ) (c : Cell K) (x : Entry K) → Kept hash cells → Passed same hash cells k at → (at ≡ no_cell → ⊥) → c ≡ get_or cells at c → c.entry ≡ Some x → same x.key k ≡ false → Passed same hash cells k c.next × (length cells ≤ no_cell → length cells - c.next < length cells - at)
-  passed_next cells k at c x kept p ne e y diff =
-      let inside = passed_inside cells k at p ne in
-      let here : get_or (held cells) at None ≡ Some x = held_read cells at c inside e ∙ y in
-      let inb : In hash cells (hash k % length cells) at = ⊎_elim (λ z. absurd (ne z)) (λ s. s) p.stands in
-      let bk : hash x.key % length cells ≡ hash k % length cells = in_bucket hash (length cells) _ (get_or (held cells) at None) x here inb in
-      let l : Link (In hash cells (hash k % length cells)) (at + 1) c.next = subst (λ b. Link (In hash cells b) (at + 1) c.next) bk (subst (λ n. Link (In hash cells (hash x.key % length cells)) (at + 1) n) (next_read cells at c inside e) (kept.chained.nexts at x here)) in (
+  pub passed_next : (cells : List (Cell K)) (k : K) (at : Option ℕ) (i : ℕ) (c : Cell K) → Kept hash cells → length cells ≤ 2 ^ 64 → Passed same hash cells k at → at ≡ Some i → c ≡ get_or cells i c → ((x : Entry K) → c.entry ≡ Some x → same x.key k ≡ false) → Passed same hash cells k c.next × (length cells - end_of c.next < length cells - end_of at)
+  passed_next cells k at i c kept few p is e diff =
+      let inside = passed_inside cells k at i p is in
+      let t = sits_entry hash (length cells) (hash k % length cells) (get_or (held cells) i None) (p.stands i is) in
+      let x : Entry K = t.0 in
+      let other : same x.key k ≡ false = diff x (sym (held_read cells i c inside e) ∙ t.1) in
+      let l : Link (In hash cells (hash k % length cells)) (i + 1) c.next = subst (λ b. Link (In hash cells b) (i + 1) c.next) t.2 (subst (λ n. Link (In hash cells (hash x.key % length cells)) (i + 1) n) (next_read cells i c inside e) (kept.chained.nexts i x t.1)) in
+      let g : end_of at ≡ i = ap end_of is in (
         record {
-          stands = ⊎_elim inl (λ q. inr q.1) (ends l);
-          none = λ j y' lt hj a. ⊎_elim (λ before. p.none j y' before hj a) (λ after.
-              ⊎_elim (λ eq. let f : same x.key k ≡ true = let w : Some x ≡ Some y' = sym here ∙ ap (λ i. get_or (held cells) i None) (sym eq) ∙ hj in let v : x ≡ y' = cc in rw v a in let z : true ≡ false = sym f ∙ diff in let o : ◌≡◌ {A = ℕ} 0 1 = cc in omega arith)
-              (λ ne'. l.first j (omega arith) lt (alike_in cells k j y' hj a)) (cases_eq j at)) (cases_lt j at);
+          stands = λ j s. (l.stands j s).1;
+          none = λ j y lt hj a. ⊎_elim (λ before. p.none j y (omega arith) hj a) (λ after.
+              ⊎_elim (λ eq. let u : x ≡ y = some_is (sym t.1 ∙ ap (λ n. get_or (held cells) n None) (sym eq) ∙ hj) in both (same y.key k) a (ap (λ (z : Entry K). same z.key k) (sym u) ∙ other))
+              (λ ne. l.first j (omega arith) lt (alike_in cells k j y hj a)) (cases_eq j i)) (cases_lt j i);
         },
-        λ few. ⊎_elim (λ z. omega arith) (λ q. omega (arith, q.0)) (ends l),
+        ⊎_elim (λ z. let n : end_of c.next ≡ 2 ^ 64 = ap end_of z in omega arith) (λ q. let n : end_of c.next ≡ q.0 = ap end_of q.1 in omega (arith, q.2)) (ends c.next l),
       )
 
-  pub passed_all : (cells : List (Cell K)) (k : K) (at : ℕ) → Passed same hash cells k at → length cells ≤ at → Lacks same cells k
-  passed_all cells k at p past = record { none = λ j e here a. p.none j e (let h = in_inside hash cells _ j (alike_in cells k j e here a) in omega arith) here a }
+  pub passed_all : (cells : List (Cell K)) (k : K) (at : Option ℕ) → length cells ≤ 2 ^ 64 → Passed same hash cells k at → at ≡ None → Lacks same cells k
+  passed_all cells k at few p z = let n : end_of at ≡ 2 ^ 64 = ap end_of z in
+      record { none = λ j e here a. p.none j e (let h = in_inside hash cells _ j (alike_in cells k j e here a) in omega arith) here a }
 
   pub none_all : (cells : List (Cell K)) (k : K) → length cells ≡ 0 → Lacks same cells k
   none_all cells k z = record { none = λ j e here a. let h = in_inside hash cells _ j (alike_in cells k j e here a) in omega arith }
 
-  pub found : (cells : List (Cell K)) (k : K) (at : ℕ) (c : Cell K) (x : Entry K) → Passed same hash cells k at → (at ≡ no_cell → ⊥) → c ≡ get_or cells at c → c.entry ≡ Some x → same x.key k ≡ true → Holds same cells k at
-  found cells k at c x p ne e y a = let inside = passed_inside cells k at p ne in record { inside = inside; entry = x; here = held_read cells at c inside e ∙ y; alike = a }
+  pub found : (cells : List (Cell K)) (k : K) (at : Option ℕ) (i : ℕ) (c : Cell K) (x : Entry K) → Passed same hash cells k at → at ≡ Some i → c ≡ get_or cells i c → c.entry ≡ Some x → same x.key k ≡ true → Holds same cells k i
+  found cells k at i c x p is e y a = let inside = passed_inside cells k at i p is in record { inside = inside; entry = x; here = held_read cells i c inside e ∙ y; alike = a }

@@ -1,6 +1,6 @@
 -- What stands in the cells. Only this crate's own code speaks of it; callers see the map of Maps.
 --
--- no_cell   the number that stands where there is no cell
+-- end_of    how far a link passes: up to its cell, or, where there is none, past every cell
 -- emptied   a cell that holds nothing
 -- held      what the cells hold, cell by cell, their links left out
 -- head_at   the first cell of a bucket's chain, as the cells say it
@@ -20,24 +20,25 @@
 -- Between   the link that goes past a given cell, or to it
 -- Hooked    one link was changed, and nothing else
 
-use Rattle.std.specs.Prelude.{◌≡◌, ℕ, ◌+◌, ◌%◌, ◌<◌, ◌≤◌, Bool, true, ◌⊎◌, List, map, length, get_or, Some, None, Option, ◌≢◌, slice_index, slice_index_or, slice_set}
+use Rattle.std.specs.Prelude.{◌≡◌, ℕ, ◌+◌, ◌%◌, ◌^◌, ◌<◌, ◌≤◌, Bool, true, ◌⊎◌, List, map, length, get_or, Some, None, Option, ◌≢◌, slice_index_or, slice_set}
 use Rattle.cells.specs.declared.cell.Entry.{Entry}
 use Rattle.cells.specs.declared.cell.Cell.{Cell}
 
-abbrev pub no_cell : ℕ
-no_cell = 18446744073709551615
+abbrev pub end_of : Option ℕ → ℕ
+end_of None = 2 ^ 64
+end_of (Some i) = i
 
 abbrev pub emptied : {K : Type 0} → Cell K
-emptied = record { entry = None; next = no_cell; head = no_cell }
+emptied = record { entry = None; next = None; head = None }
 
 abbrev pub held : {K : Type 0} → List (Cell K) → List (Option (Entry K))
 held cells = map (λ c. c.entry) cells
 
-abbrev pub head_at : {K : Type 0} → List (Cell K) → ℕ → ℕ
-head_at cells b = slice_index (map (λ c. c.head) cells) b
+abbrev pub head_at : {K : Type 0} → List (Cell K) → ℕ → Option ℕ
+head_at cells b = slice_index_or (map (λ c. c.head) cells) b None
 
-abbrev pub next_at : {K : Type 0} → List (Cell K) → ℕ → ℕ
-next_at cells i = slice_index (map (λ c. c.next) cells) i
+abbrev pub next_at : {K : Type 0} → List (Cell K) → ℕ → Option ℕ
+next_at cells i = slice_index_or (map (λ c. c.next) cells) i None
 
 abbrev pub valued : {K : Type 0} → Option (Entry K) → Option ℕ
 valued None = None
@@ -58,12 +59,12 @@ Sits hash n b (Some e) = hash e.key % n ≡ b
 abbrev pub In : {K : Type 0} → (K → ℕ) → List (Cell K) → ℕ → ℕ → Type 0
 In hash cells b j = Sits hash (length cells) b (slice_index_or (held cells) j None)
 
-pub record Link (p : ℕ → Type 0) (from x : ℕ) : Type 0 where
-  pub stands : (x ≢ no_cell) → (from ≤ x) × p x
-  pub first : (j : ℕ) → from ≤ j → j < x → p j → ⊥
+pub record Link (p : ℕ → Type 0) (from : ℕ) (x : Option ℕ) : Type 0 where
+  pub stands : (i : ℕ) → x ≡ Some i → (from ≤ i) × p i
+  pub first : (j : ℕ) → from ≤ j → j < end_of x → p j → ⊥
 
 -- v is what the cells hold, H and N are their links
-pub record Chained {K : Type 0} (hash : K → ℕ) (n : ℕ) (v : ℕ → Option (Entry K)) (H N : ℕ → ℕ) : Type 0 where
+pub record Chained {K : Type 0} (hash : K → ℕ) (n : ℕ) (v : ℕ → Option (Entry K)) (H N : ℕ → Option ℕ) : Type 0 where
   pub heads : (b : ℕ) → b < n → Link (λ j. Sits hash n b (v j)) 0 (H b)
   pub nexts : (i : ℕ) (e : Entry K) → v i ≡ Some e → Link (λ j. Sits hash n (hash e.key % n) (v j)) (i + 1) (N i)
 
@@ -79,24 +80,24 @@ pub record Holds {K : Type 0} (same : K → K → Bool) (cells : List (Cell K)) 
 pub record Lacks {K : Type 0} (same : K → K → Bool) (cells : List (Cell K)) (k : K) : Type 0 where
   pub none : (j : ℕ) (e : Entry K) → slice_index_or (held cells) j None ≡ Some e → same e.key k ≢ true
 
-pub record Passed {K : Type 0} (same : K → K → Bool) (hash : K → ℕ) (cells : List (Cell K)) (k : K) (at : ℕ) : Type 0 where
-  pub stands : (at ≡ no_cell) ⊎ In hash cells (hash k % length cells) at
-  pub none : (j : ℕ) (e : Entry K) → j < at → slice_index_or (held cells) j None ≡ Some e → same e.key k ≢ true
+pub record Passed {K : Type 0} (same : K → K → Bool) (hash : K → ℕ) (cells : List (Cell K)) (k : K) (at : Option ℕ) : Type 0 where
+  pub stands : (i : ℕ) → at ≡ Some i → In hash cells (hash k % length cells) i
+  pub none : (j : ℕ) (e : Entry K) → j < end_of at → slice_index_or (held cells) j None ≡ Some e → same e.key k ≢ true
 
 -- the link comes from the cell `before`, or is the head of bucket b, and goes to x
-abbrev pub Step : (p : ℕ → Type 0) → (H N : ℕ → ℕ) → (b f before x : ℕ) → Type 0
+abbrev pub Step : (p : ℕ → Type 0) → (H N : ℕ → Option ℕ) → (b f : ℕ) → (before x : Option ℕ) → Type 0
 Step p H N b f before x =
-    ((before ≡ no_cell) × (x ≡ H b) × Link p 0 x) ⊎ ((before < f) × p before × (x ≡ N before) × Link p (before + 1) x)
+    ((before ≡ None) × (x ≡ H b) × Link p 0 x) ⊎ ((i : ℕ) × (before ≡ Some i) × (i < f) × p i × (x ≡ N i) × Link p (i + 1) x)
 
-pub record Between {K : Type 0} (hash : K → ℕ) (cells : List (Cell K)) (b f before x : ℕ) : Type 0 where
+pub record Between {K : Type 0} (hash : K → ℕ) (cells : List (Cell K)) (b f : ℕ) (before x : Option ℕ) : Type 0 where
   pub step : Step (In hash cells b) (head_at cells) (next_at cells) b f before x
-  pub past : f ≤ x
+  pub past : f ≤ end_of x
 
 -- the link from `before`, or the head of bucket b, goes to x now
-pub record Hooked {K : Type 0} (old new : List (Cell K)) (b before x : ℕ) : Type 0 where
+pub record Hooked {K : Type 0} (old new : List (Cell K)) (b : ℕ) (before x : Option ℕ) : Type 0 where
   pub size : length new ≡ length old
   pub same : held new ≡ held old
-  pub heads : (j : ℕ) → (before ≡ no_cell → j ≢ b) → head_at new j ≡ head_at old j
-  pub nexts : (j : ℕ) → (before ≡ no_cell) ⊎ (j ≢ before) → next_at new j ≡ next_at old j
-  pub head : before ≡ no_cell → head_at new b ≡ x
-  pub next : (before ≢ no_cell) → next_at new before ≡ x
+  pub heads : (j : ℕ) → (before ≡ None → j ≢ b) → head_at new j ≡ head_at old j
+  pub nexts : (j : ℕ) → before ≢ Some j → next_at new j ≡ next_at old j
+  pub head : before ≡ None → head_at new b ≡ x
+  pub next : (i : ℕ) → before ≡ Some i → next_at new i ≡ x

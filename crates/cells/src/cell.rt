@@ -1,9 +1,6 @@
 ghost use Rattle.std.specs.Prelude.{◌≡◌};
 ghost use Rattle.cells.specs.Chains.{emptied};
 
-/// Stands where there is no cell: a slice is never so long that it has a cell of this number.
-pub(crate) const NO_CELL: usize = usize::MAX;
-
 /// A key and the value under it.
 #[derive(Clone, Copy)]
 pub(crate) struct Entry<K> {
@@ -16,9 +13,9 @@ pub(crate) struct Entry<K> {
 pub struct Cell<K> {
     pub(crate) entry: Option<Entry<K>>,
     /// The next cell of this entry's chain.
-    pub(crate) next: usize,
+    pub(crate) next: Option<usize>,
     /// The first cell of the chain of the bucket that has this cell's number.
-    pub(crate) head: usize,
+    pub(crate) head: Option<usize>,
 }
 
 impl<K> Cell<K> {
@@ -28,8 +25,8 @@ impl<K> Cell<K> {
     {
         Cell {
             entry: None,
-            next: NO_CELL,
-            head: NO_CELL,
+            next: None,
+            head: None,
         }
     }
 }

@@ -1,11 +1,11 @@
 //! The cells of a bucket are chained by their numbers, and the numbers of a chain ascend. So a link says only
 //! which taken cell of its bucket comes next, a walk ends, and a cell's place in its chain is found by its number.
 
-ghost use Rattle.std.specs.Prelude.{◌≡◌, ◌<◌, length, Some, None, MatchOption, ◌≢◌, slice_index_or, slice_set};
-ghost use Rattle.cells.specs.Chains.{held, valued, revalued, without, no_cell, Kept, Holds, Lacks, Between, Hooked};
+ghost use Rattle.std.specs.Prelude.{◌≡◌, ◌<◌, length, Some, None, MatchOption, ℕ, slice_index_or, slice_set};
+ghost use Rattle.cells.specs.Chains.{held, valued, revalued, without, Kept, Holds, Lacks, Between, Hooked};
 ghost use Rattle.cells.specs.Maps.{Empty};
 
-use crate::cell::{Cell, Entry, NO_CELL};
+use crate::cell::{Cell, Entry};
 use keys::key::Key;
 
 /// The cell that holds a key the same as this one.
@@ -19,19 +19,13 @@ pub(crate) fn seek<K: Key + Copy>(cells: &[Cell<K>], key: &K) -> Option<usize>
         return None;
     }
     let bucket = key.hash() as usize % cells.len();
-    let mut at = cells[bucket].head;
-    while at != NO_CELL {
+    let mut link = cells[bucket].head;
+    while let Some(at) = link {
         let cell = cells[at];
-        let Cell { entry, next, .. } = cell;
-        match entry {
-            Some(entry) => {
-                if entry.key == *key {
-                    return Some(at);
-                }
-            }
-            None => return None,
+        if cell.entry.is_some_and(|entry| entry.key == *key) {
+            return Some(at);
         }
-        at = next;
+        link = cell.next;
     }
     None
 }
@@ -47,8 +41,8 @@ pub(crate) fn value_at<K: Copy>(cells: &[Cell<K>], at: usize) -> Option<u32>
 /// A place in a chain: after the cell `before`, or first in it, and before the cell `after`, or last.
 #[derive(Clone, Copy)]
 struct Gap {
-    before: usize,
-    after: usize,
+    before: Option<usize>,
+    after: Option<usize>,
 }
 
 /// Where the cell `f` has, or would have, its place in the chain of a bucket.
@@ -58,25 +52,26 @@ fn find_gap<K: Key + Copy>(cells: &[Cell<K>], bucket: usize, f: usize) -> Gap
     requires bucket { bucket < length cells.now }
     ensures { Between K.hashed cells.now bucket f result.before result.after }
 {
-    let mut before = NO_CELL;
+    let mut before = None;
     let mut after = cells[bucket].head;
-    while after < f {
+    while let Some(at) = after
+        && at < f
+    {
         before = after;
-        after = cells[after].next;
+        after = cells[at].next;
     }
     Gap { before, after }
 }
 
-/// Lets the link at a place in a bucket's chain go to the cell `x`.
-fn hook<K: Copy>(cells: &mut [Cell<K>], bucket: usize, before: usize, x: usize)
+/// Lets the link at a place in a bucket's chain go to the cell `x`, or end the chain.
+fn hook<K: Copy>(cells: &mut [Cell<K>], bucket: usize, before: Option<usize>, x: Option<usize>)
     requires bucket { bucket < length cells.old }
-    requires inside { (before ≢ no_cell) → before < length cells.old }
+    requires inside { (i : ℕ) → before ≡ Some i → i < length cells.old }
     ensures { Hooked cells.old cells.new bucket before x }
 {
-    if before == NO_CELL {
-        cells[bucket].head = x;
-    } else {
-        cells[before].next = x;
+    match before {
+        Some(at) => cells[at].next = x,
+        None => cells[bucket].head = x,
     }
 }
 
@@ -96,7 +91,7 @@ pub(crate) fn put<K: Key + Copy>(cells: &mut [Cell<K>], f: usize, entry: Entry<K
         next: after,
         head,
     };
-    hook(cells, bucket, before, f);
+    hook(cells, bucket, before, Some(f));
 }
 
 /// Takes the cell `f` out of its chain, and the entry out of the cell.

@@ -1,12 +1,8 @@
-use Rattle.std.proofs.Common.{rules}
 use Rattle.cells.proofs.Hooks.{hook_head, hook_next}
 use Rattle.cells.proofs.chain.hook.Goals as goal
 
-pub offset_bounds-cells-before : goal.offset_bounds-cells-before
-offset_bounds-cells-before g c = let h = c.requires.inside c.if-before-eq-NO_CELL.false in search rules
+pub returns-in-Some : goal.returns-in-Some
+returns-in-Some g c = hook_next _ _ _ _ _ _ (c.requires.inside _ c.in-Some.is) c.in-Some.is
 
-pub returns-then-before-eq-NO_CELL : goal.returns-then-before-eq-NO_CELL
-returns-then-before-eq-NO_CELL g c = hook_head _ _ _ _ _ c.requires.bucket c.if-before-eq-NO_CELL.true
-
-pub returns-else-before-eq-NO_CELL : goal.returns-else-before-eq-NO_CELL
-returns-else-before-eq-NO_CELL g c = hook_next _ _ _ _ _ (c.requires.inside c.if-before-eq-NO_CELL.false) c.if-before-eq-NO_CELL.false
+pub returns-in-None : goal.returns-in-None
+returns-in-None g c = hook_head _ _ _ _ _ c.requires.bucket c.in-None.is

@@ -1,30 +1,29 @@
-use Rattle.std.proofs.Common.{sym, ◌∙◌, arith, rules}
-use Rattle.cells.proofs.Walks.{passed_start, passed_inside, passed_some, passed_next, passed_all, none_all, found}
+use Rattle.std.proofs.Common.{◌≡◌, false, ⊎_elim, arith, rules}
+use Rattle.cells.proofs.Entries.{both}
+use Rattle.cells.proofs.Links.{which}
+use Rattle.cells.proofs.Walks.{passed_start, passed_inside, passed_next, passed_all, found}
 use Rattle.cells.proofs.chain.seek.Goals as goal
 
-pub returns-then-is_empty : goal.returns-then-is_empty
-returns-then-is_empty g c = none_all g.K.PartialEq.eq g.K.Key.hashed g.met.K.Key.agrees _ _ (search rules)
-
-pub loop-at-init : goal.loop-at-init
-loop-at-init g c = passed_start g.K.PartialEq.eq g.K.Key.hashed g.met.K.Key.agrees _ _ _ _ c.requires c.hash.ensures.tells (search rules) c.index-cells-bucket.is
+pub loop-link-init : goal.loop-link-init
+loop-link-init g c = passed_start g.K.PartialEq.eq g.K.Key.hashed g.met.K.Key.agrees _ _ _ _ c.requires c.hash.ensures.tells (search rules) c.index-cells-bucket.is
 
 pub offset_bounds-cells-at : goal.offset_bounds-cells-at
-offset_bounds-cells-at g c = let h = passed_inside g.K.PartialEq.eq g.K.Key.hashed g.met.K.Key.agrees _ _ _ c.loop-at.invariant c.loop-at-test.true in omega arith
+offset_bounds-cells-at g c = let h = passed_inside g.K.PartialEq.eq g.K.Key.hashed g.met.K.Key.agrees _ _ _ _ c.loop-link.invariant c.in-Some.is in omega arith
 
 pub bounds-cells-at : goal.bounds-cells-at
-bounds-cells-at g c = passed_inside g.K.PartialEq.eq g.K.Key.hashed g.met.K.Key.agrees _ _ _ c.loop-at.invariant c.loop-at-test.true
+bounds-cells-at g c = passed_inside g.K.PartialEq.eq g.K.Key.hashed g.met.K.Key.agrees _ _ _ _ c.loop-link.invariant c.in-Some.is
 
-pub returns-in-None : goal.returns-in-None
-returns-in-None g c = absurd (passed_some g.K.PartialEq.eq g.K.Key.hashed g.met.K.Key.agrees _ _ _ _ c.loop-at.invariant c.loop-at-test.true c.index-cells-at.is c.in-None.is)
+pub returns-then-is_some_and : goal.returns-then-is_some_and
+returns-then-is_some_and g c =
+    ⊎_elim (λ none. absurd (let never : c.is_some_and.result ≡ false = search rules in both _ c.if-is_some_and.true never))
+    (λ some. found g.K.PartialEq.eq g.K.Key.hashed g.met.K.Key.agrees _ _ _ _ _ _ c.loop-link.invariant c.in-Some.is c.index-cells-at.is some.1 (search rules))
+    (which c.index-cells-at.result.entry)
 
-pub returns-then-eq : goal.returns-then-eq
-returns-then-eq g c = found g.K.PartialEq.eq g.K.Key.hashed g.met.K.Key.agrees _ _ _ _ _ c.loop-at.invariant c.loop-at-test.true c.index-cells-at.is c.in-Some.is (sym c.eq.ensures ∙ c.if-eq.true)
+pub loop-link-smaller : goal.loop-link-smaller
+loop-link-smaller g c = (passed_next g.K.PartialEq.eq g.K.Key.hashed g.met.K.Key.agrees _ _ _ _ _ c.requires (omega arith) c.loop-link.invariant c.in-Some.is c.index-cells-at.is (λ x e. search rules)).1
 
-pub loop-at-smaller : goal.loop-at-smaller
-loop-at-smaller g c = (passed_next g.K.PartialEq.eq g.K.Key.hashed g.met.K.Key.agrees _ _ _ _ _ c.requires c.loop-at.invariant c.loop-at-test.true c.index-cells-at.is c.in-Some.is (sym c.eq.ensures ∙ c.if-eq.false)).1 (omega arith)
-
-pub loop-at-preserved : goal.loop-at-preserved
-loop-at-preserved g c = (passed_next g.K.PartialEq.eq g.K.Key.hashed g.met.K.Key.agrees _ _ _ _ _ c.requires c.loop-at.invariant c.loop-at-test.true c.index-cells-at.is c.in-Some.is (sym c.eq.ensures ∙ c.if-eq.false)).0
+pub loop-link-preserved : goal.loop-link-preserved
+loop-link-preserved g c = (passed_next g.K.PartialEq.eq g.K.Key.hashed g.met.K.Key.agrees _ _ _ _ _ c.requires (omega arith) c.loop-link.invariant c.in-Some.is c.index-cells-at.is (λ x e. search rules)).0
 
 pub returns : goal.returns
-returns g c = passed_all g.K.PartialEq.eq g.K.Key.hashed g.met.K.Key.agrees _ _ _ c.loop-at.invariant (omega arith)
+returns g c = passed_all g.K.PartialEq.eq g.K.Key.hashed g.met.K.Key.agrees _ _ _ (omega arith) c.loop-link.invariant c.in_default.is
