@@ -167,7 +167,5 @@ pub(crate) fn replace<K: Key + Copy>(cells: &mut [Cell<K>], at: usize, value: u3
 pub(crate) fn empty_all<K: Copy>(cells: &mut [Cell<K>])
     ensures { Empty cells.new }
 {
-    for cell in cells.iter_mut() {
-        *cell = Cell::empty();
-    }
+    cells.fill(Cell::empty());
 }
