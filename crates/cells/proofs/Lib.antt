@@ -5,7 +5,6 @@ pub mod Walks
 pub mod Hooks
 pub mod Gaps
 pub mod Moves
-pub mod Empties
 pub mod Entries
 pub mod Lookups
 pub mod Firsts

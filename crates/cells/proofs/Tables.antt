@@ -1,7 +1,7 @@
 -- A table's rules and its map after one of its calls.
 use Rattle.std.proofs.Common.{◌≡◌, ℕ, ◌+◌, ◌-◌, ◌<◌, ◌≤◌, Bool, List, length, get_or, set, is_some, Some, None, Option, sym, ap, ◌∙◌, subst, ⊎_elim, arith}
 use Rattle.std.specs.Cmp.{IsEquivalence}
-use Rattle.std.proofs.lemmas.List.{get_or-map, get_or_past, set-get_or, set-set, get_or-set_other}
+use Rattle.std.proofs.lemmas.List.{get_or-map, get_or_past, set-get_or, set-set}
 use Rattle.std.proofs.lemmas.Bool.{cases_lt, cases_eq}
 use Rattle.cells.specs.declared.cell.Entry.{Entry}
 use Rattle.cells.specs.declared.cell.Cell.{Cell}
@@ -27,28 +27,21 @@ without_none vs ws us hole last inside e f gone =
     let free : get_or ws hole None ≡ None = ap (λ os. get_or os hole None) e ∙ set_here vs hole None inside in
     f ∙ fill_none ws hole last free gone ∙ ap (λ os. set (set os last None) hole (get_or os last None)) e
 
--- the hole is free after the last entry is taken out too
-pub hole_free : {K : Type 0} (vs : List (Option (Entry K))) (hole last : ℕ) (e : Entry K) → get_or vs hole None ≡ None → Some e ≡ get_or vs last None → get_or (set vs last None) hole None ≡ None
-hole_free vs hole last e free here = get_or-set_other vs last hole None None (λ u. some_none e (sym free ∙ ap (λ j. get_or vs j None) u ∙ sym here)) ∙ free
-
 -- cells that are all empty
-module _ {K : Type 0} (hash : K → ℕ) (same : K → K → Bool) (laws : IsEquivalence same) (cells : List (Cell K)) (all : Empty cells) where
+module _ {K : Type 0} (cells : List (Cell K)) (all : Empty cells) where
   free : (j : ℕ) → get_or (held cells) j None ≡ None
   free j = ⊎_elim (λ h. get_or-map (λ (x : Cell K). x.entry) cells j emptied None h ∙ ap (λ (x : Cell K). x.entry) (all j emptied h)) (λ g. get_or_past (held cells) j None (rw (length-held cells) g)) (cases_lt j (length cells))
 
   nothing : (j : ℕ) (e : Entry K) → At (held cells) j e → ⊥
   nothing j e q = some_none e (sym (free j) ∙ q)
 
-  no_one : (b j : ℕ) → Sits hash (length cells) b (get_or (held cells) j None) → ⊥
-  no_one b j s = subst (Sits hash (length cells) b) (free j) s
-
-  pub empty_rules : Rules hash same cells 0
-  empty_rules = record {
+  pub empty_rules : (hash : K → ℕ) (same : K → K → Bool) → Rules hash same cells 0
+  empty_rules hash same = record {
     kept = record {
       chained = record {
         heads = λ b h. record {
           stands = λ i e. absurd (clash (get_or-map (λ (x : Cell K). x.head) cells b emptied None h ∙ ap (λ (x : Cell K). x.head) (all b emptied h)) e);
-          first = λ j _ _ s. no_one b j s;
+          first = λ j _ _ s. subst (Sits hash (length cells) b) (free j) s;
         };
         nexts = λ i e q. absurd (nothing i e q);
       };
@@ -57,10 +50,10 @@ module _ {K : Type 0} (hash : K → ℕ) (same : K → K → Bool) (laws : IsEqu
     dense = record { size = omega arith; taken = λ j h. absurd (omega arith); free = λ j _. ap is_some (free j) };
   }
 
-  pub empty_blank : Blank (value_in same (held cells))
-  empty_blank k = find_none same laws (held cells) k (λ j e q a. nothing j e q)
+  pub empty_blank : {same : K → K → Bool} → IsEquivalence same → Blank (value_in same (held cells))
+  empty_blank {same} laws k = find_none same laws (held cells) k (λ j e q a. nothing j e q)
 
-module _ {K : Type 0} (hash : K → ℕ) (same : K → K → Bool) (laws : IsEquivalence same) (cells : List (Cell K)) (count : ℕ) (rules : Rules hash same cells count) where
+module _ {K : Type 0} {hash : K → ℕ} {same : K → K → Bool} (laws : IsEquivalence same) {cells : List (Cell K)} {count : ℕ} (rules : Rules hash same cells count) where
   known : (new : List (Cell K)) (ws : List (Option (Entry K))) (n : ℕ) (map : K → Option ℕ) → Kept hash new → held new ≡ ws → Holding same ws n map → Rules hash same new n × ((k : K) → value_in same (held new) k ≡ map k)
   known new ws n map kept is h =
       let h' : Holding same (held new) n map = subst (λ us. Holding same us n map) (sym is) h in
@@ -70,9 +63,6 @@ module _ {K : Type 0} (hash : K → ℕ) (same : K → K → Bool) (laws : IsEqu
   module _ (key : K) (i : ℕ) (holds : Holds same cells key i) where
     pub value_there : (v : Option ℕ) → v ≡ valued (get_or (held cells) i None) → v ≡ value_in same (held cells) key
     value_there v q = q ∙ ap valued holds.here ∙ found_value same laws (held cells) count rules.once rules.dense key i holds.entry holds.here holds.alike
-
-    pub value_taken : (e : Entry K) → Some e ≡ get_or (held cells) i None → Some e.value ≡ value_in same (held cells) key
-    value_taken e q = found_value same laws (held cells) count rules.once rules.dense key i e (sym q) (let u : Some e ≡ Some holds.entry = q ∙ holds.here in let v : e ≡ holds.entry = cc in rw v holds.alike)
 
     pub below_count : i < count
     below_count = taken_below (held cells) count rules.dense i holds.entry holds.here

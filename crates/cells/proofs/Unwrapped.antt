@@ -22,25 +22,25 @@ link_prop p from x each l m = λ i. record {
   first = λ j a b h. absurd_prop (l.first j a b h) (m.first j a b h) i;
 }
 
-module _ {K : Type 0} (hash : K → ℕ) (same : K → K → Bool) (cells : List (Cell K)) (count : ℕ) where
-  chained_prop : (n : ℕ) (v : ℕ → Option (Entry K)) (H N : ℕ → Option ℕ) → IsProp (Chained hash n v H N)
-  chained_prop n v H N l m = λ i. record {
-    heads = λ b h. link_prop (λ j. Sits hash n b (v j)) 0 (H b) (λ j. sits_prop hash n b (v j)) (l.heads b h) (m.heads b h) i;
-    nexts = λ k e q. link_prop (λ j. Sits hash n (hash e.key % n) (v j)) _ (N k) (λ j. sits_prop hash n (hash e.key % n) (v j)) (l.nexts k e q) (m.nexts k e q) i;
-  }
+chained_prop : {K : Type 0} (hash : K → ℕ) (n : ℕ) (v : ℕ → Option (Entry K)) (H N : ℕ → Option ℕ) → IsProp (Chained hash n v H N)
+chained_prop hash n v H N l m = λ i. record {
+  heads = λ b h. link_prop (λ j. Sits hash n b (v j)) 0 (H b) (λ j. sits_prop hash n b (v j)) (l.heads b h) (m.heads b h) i;
+  nexts = λ k e q. link_prop (λ j. Sits hash n (hash e.key % n) (v j)) _ (N k) (λ j. sits_prop hash n (hash e.key % n) (v j)) (l.nexts k e q) (m.nexts k e q) i;
+}
 
-  dense_prop : (vs : List (Option (Entry K))) → IsProp (Dense vs count)
-  dense_prop vs l m = λ i. record {
-    size = le_prop l.size m.size i;
-    taken = λ j h. Bool-set _ _ (l.taken j h) (m.taken j h) i;
-    free = λ j h. Bool-set _ _ (l.free j h) (m.free j h) i;
-  }
+dense_prop : {K : Type 0} (vs : List (Option (Entry K))) (count : ℕ) → IsProp (Dense vs count)
+dense_prop vs count l m = λ i. record {
+  size = le_prop l.size m.size i;
+  taken = λ j h. Bool-set _ _ (l.taken j h) (m.taken j h) i;
+  free = λ j h. Bool-set _ _ (l.free j h) (m.free j h) i;
+}
 
+module _ {K : Type 0} {hash : K → ℕ} {same : K → K → Bool} {cells : List (Cell K)} {count : ℕ} where
   pub rules_prop : IsProp (Rules hash same cells count)
   rules_prop l m = λ i. record {
-    kept = record { chained = chained_prop (length cells) _ _ _ l.kept.chained m.kept.chained i };
+    kept = record { chained = chained_prop hash (length cells) _ _ _ l.kept.chained m.kept.chained i };
     once = λ a b e f p q s. ℕ_set a b (l.once a b e f p q s) (m.once a b e f p q s) i;
-    dense = dense_prop _ l.dense m.dense i;
+    dense = dense_prop _ count l.dense m.dense i;
   }
 
   pub unwrap : ∥ Rules hash same cells count ∥₁ → Rules hash same cells count

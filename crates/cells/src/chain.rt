@@ -3,10 +3,12 @@
 
 ghost use Rattle.std.specs.Prelude.{◌≡◌, ◌<◌, length, Some, None, MatchOption, ℕ, slice_index_or, slice_set};
 ghost use Rattle.cells.specs.Chains.{held, valued, revalued, without, Kept, Holds, Lacks, Between, Hooked};
-ghost use Rattle.cells.specs.Maps.{Empty};
 
 use crate::cell::{Cell, Entry};
 use keys::key::Key;
+
+// Functions over lent cells, each of which asks that they are chained. In a type of chained cells, held by a table,
+// the fact would hide from a table's caller what stands in its cells afterwards.
 
 /// The cell that holds a key the same as this one.
 pub(crate) fn seek<K: Key + Copy>(cells: &[Cell<K>], key: &K) -> Option<usize>
@@ -104,20 +106,18 @@ pub(crate) fn give_up<K: Key + Copy>(cells: &mut [Cell<K>], f: usize) -> Option<
 {
     let cell = cells[f];
     let Cell { entry, next, head } = cell;
-    match entry {
-        Some(entry) => {
-            let bucket = entry.key.hash() as usize % cells.len();
-            let Gap { before, .. } = find_gap(cells, bucket, f);
-            cells[f] = Cell {
-                entry: None,
-                next,
-                head,
-            };
-            hook(cells, bucket, before, next);
-            Some(entry)
-        }
-        None => None,
-    }
+    let Some(entry) = entry else {
+        return None;
+    };
+    let bucket = entry.key.hash() as usize % cells.len();
+    let Gap { before, .. } = find_gap(cells, bucket, f);
+    cells[f] = Cell {
+        entry: None,
+        next,
+        head,
+    };
+    hook(cells, bucket, before, next);
+    Some(entry)
 }
 
 /// Takes the entry of the cell `hole` out, and moves that of the cell `last` there, so that the entries stay in the
@@ -148,24 +148,7 @@ pub(crate) fn replace<K: Key + Copy>(cells: &mut [Cell<K>], at: usize, value: u3
     ensures kept { Kept K.hashed cells.new }
     ensures held { held cells.new ≡ slice_set (held cells.old) at (revalued (slice_index_or (held cells.old) at None) value) }
 {
-    let cell = cells[at];
-    let Cell { entry, next, head } = cell;
-    match entry {
-        Some(entry) => {
-            let key = entry.key;
-            cells[at] = Cell {
-                entry: Some(Entry { key, value }),
-                next,
-                head,
-            };
-        }
-        None => {}
+    if let Some(entry) = &mut cells[at].entry {
+        entry.value = value;
     }
-}
-
-/// Empties every cell.
-pub(crate) fn empty_all<K: Copy>(cells: &mut [Cell<K>])
-    ensures { Empty cells.new }
-{
-    cells.fill(Cell::empty());
 }

@@ -26,7 +26,7 @@ impl<'a, K: Key + Copy> Table<'a, K> {
         ensures count { result.count ≡ 0 }
         ensures empty { Empty (cells_of result) }
     {
-        chain::empty_all(cells);
+        cells.fill(Cell::empty());
         Table { cells, count: 0 }
     }
 }

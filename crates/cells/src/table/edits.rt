@@ -2,7 +2,7 @@ ghost use Rattle.std.specs.Prelude.{◌≡◌, MatchResult};
 ghost use Rattle.cells.specs.Maps.{cells_of, lookup, Drops, Blank, without_key, Inserted, Refused, Empty, SameCells};
 
 use super::Table;
-use crate::cell::Entry;
+use crate::cell::{Cell, Entry};
 use crate::chain;
 use crate::refusal::Full;
 use keys::key::Key;
@@ -50,7 +50,7 @@ impl<K: Key + Copy> Table<'_, K> {
         ensures count { self.new.count ≡ 0 }
         ensures empty { Empty (cells_of self.new) }
     {
-        chain::empty_all(self.cells);
+        self.cells.fill(Cell::empty());
         self.count = 0;
     }
 }

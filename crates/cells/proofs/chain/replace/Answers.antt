@@ -1,10 +1,9 @@
-use Rattle.cells.proofs.Moves.{revalued_all, revalued_none}
+use Rattle.std.proofs.Common.{get_or}
+use Rattle.cells.proofs.Fields.{reread}
+use Rattle.cells.proofs.Moves.{revalued_all}
 use Rattle.cells.proofs.chain.replace.Goals as goal
 
 pub returns-in-Some : goal.returns-in-Some
 returns-in-Some g c =
-    let d = revalued_all g.K.Key.hashed _ _ _ _ _ c.requires.kept c.requires.inside c.index-cells-at.is c.in-Some.is in
+    let d = revalued_all g.K.Key.hashed _ _ c.args.value c.in-Some.entry (get_or c.args.cells.now c.args.at c.index-cells-at.result) c.requires.kept c.requires.inside (reread _ _ _ _ c.requires.inside) c.in-Some.is in
     record { kept = d.0; held = d.1 }
-
-pub returns-in-None : goal.returns-in-None
-returns-in-None g c = record { kept = c.requires.kept; held = revalued_none _ _ _ _ c.requires.inside c.index-cells-at.is c.in-None.is }

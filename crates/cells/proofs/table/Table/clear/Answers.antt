@@ -1,10 +1,11 @@
-use Rattle.cells.specs.Maps.{lookup}
+use Rattle.std.proofs.Common.{rules}
+use Rattle.cells.specs.Maps.{lookup, Empty}
 use Rattle.cells.proofs.Tables.{empty_rules, empty_blank}
 use Rattle.cells.proofs.table.Table.clear.Goals as goal
 
 pub invariant_of-self : goal.invariant_of-self
-invariant_of-self g c = record { sound = ∣ empty_rules g.K.Key.hashed g.K.PartialEq.eq g.met.K.Eq.laws _ c.empty_all.ensures ∣₁ }
+invariant_of-self g c = let all : Empty c.fill.new.self = search rules in record { sound = ∣ empty_rules _ all g.K.Key.hashed g.K.PartialEq.eq ∣₁ }
 
 pub returns-clause-blank : goal.returns-clause-blank
 unfolding lookup
-returns-clause-blank g c = empty_blank g.K.Key.hashed g.K.PartialEq.eq g.met.K.Eq.laws _ c.empty_all.ensures
+returns-clause-blank g c = let all : Empty c.fill.new.self = search rules in empty_blank _ all g.met.K.Eq.laws

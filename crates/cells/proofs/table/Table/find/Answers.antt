@@ -7,11 +7,11 @@ use Rattle.cells.proofs.table.Table.find.Goals as goal
 pub returns-in_err-at : goal.returns-in_err-at
 unfolding lookup
 returns-in_err-at g c =
-    let sound = unwrap g.K.Key.hashed g.K.PartialEq.eq _ _ c.args.self.now.sound in
-    c.from_residual.ensures ∙ no_value g.K.Key.hashed g.K.PartialEq.eq g.met.K.Eq.laws _ _ sound _ c.in_err-at.ensures
+    let sound = unwrap c.args.self.now.sound in
+    c.from_residual.ensures ∙ no_value g.met.K.Eq.laws sound _ c.in_err-at.ensures
 
 pub returns : goal.returns
 unfolding lookup
 returns g c =
-    let sound = unwrap g.K.Key.hashed g.K.PartialEq.eq _ _ c.args.self.now.sound in
-    value_there g.K.Key.hashed g.K.PartialEq.eq g.met.K.Eq.laws _ _ sound _ _ c.in_ok-at.ensures _ c.value_at.ensures
+    let sound = unwrap c.args.self.now.sound in
+    value_there g.met.K.Eq.laws sound _ _ c.in_ok-at.ensures _ c.value_at.ensures
