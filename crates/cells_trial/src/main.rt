@@ -1,12 +1,13 @@
-//! Runs a table of names against a plain list, and measures how far its searches go.
+//! Runs a table of names against a map of the standard library, and measures how far its searches go.
 #![tactic(auto)]
 
-mod plain;
+mod count;
 mod random;
 mod reach;
 mod trial;
 
 use cells::cell::Cell;
+use cells::refusal::FewCells;
 use cells::repeat::find_repeat;
 use keys::sector::SectorNumber;
 use reach::measure;
@@ -36,7 +37,7 @@ fn tell_repeat(rt: &HostRuntime, numbers: &[u32]) -> anyhow::Result<()> {
     match find_repeat(&mut cells, numbers) {
         Ok(Some(place)) => println!(rt; "  {numbers:?}: again at place {place}")?,
         Ok(None) => println!(rt; "  {numbers:?}: none")?,
-        Err(_) => println!(rt; "  {numbers:?}: too few cells")?,
+        Err(FewCells) => println!(rt; "  {numbers:?}: too few cells")?,
     }
     Ok(())
 }

@@ -9,7 +9,7 @@ impl Random {
         Random { state: 1 }
     }
 
-    pub fn next(&mut self) -> u32 {
+    pub fn draw(&mut self) -> u32 {
         self.state = self
             .state
             .wrapping_mul(6364136223846793005)

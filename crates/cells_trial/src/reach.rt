@@ -1,3 +1,4 @@
+use crate::count::Count;
 use cells::cell::Cell;
 use cells::table::Table;
 use keys::child::ChildKey;
@@ -10,8 +11,8 @@ use std::fmt;
 pub fn key_of(n: u32) -> ChildKey {
     let mut codes = [0; 31];
     let mut rest = n;
-    for i in 0..8 {
-        codes[i] = 48 + rest % 10;
+    for code in &mut codes[..8] {
+        *code = u32::from(b'0') + rest % 10;
         rest /= 10;
     }
     ChildKey {
@@ -25,32 +26,24 @@ pub fn key_of(n: u32) -> ChildKey {
 }
 
 /// How many cells the searches of a kind look at, reckoned from the hashes.
-#[derive(Clone, Copy)]
+#[derive(Clone, Copy, Default)]
 pub struct Reach {
-    searches: u32,
-    total: u32,
+    searches: Count,
+    total: Count,
     longest: u32,
 }
 
 impl Reach {
-    fn new() -> Reach {
-        Reach {
-            searches: 0,
-            total: 0,
-            longest: 0,
-        }
-    }
-
     fn add(&mut self, looked_at: u32) {
-        self.searches = self.searches.saturating_add(1);
-        self.total = self.total.saturating_add(looked_at);
+        self.searches.add(1);
+        self.total.add(looked_at);
         self.longest = self.longest.max(looked_at);
     }
 }
 
 impl fmt::Display for Reach {
     fn fmt<W: fmt::Write>(&self, f: &mut fmt::Formatter<W>) -> fmt::Result {
-        let mean = u64::from(self.total) * 100 / u64::from(self.searches.max(1));
+        let mean = u64::from(self.total.value()) * 100 / u64::from(self.searches.value().max(1));
         let whole = mean / 100;
         let hundredths = mean % 100;
         let longest = self.longest;
@@ -59,29 +52,37 @@ impl fmt::Display for Reach {
 }
 
 /// The searches for keys that are there and for keys that are not, and how many answers were wrong.
-#[derive(Clone, Copy)]
+#[derive(Clone, Copy, Default)]
 pub struct Measured {
     hits: Reach,
     misses: Reach,
-    wrong: u32,
+    wrong: Count,
 }
 
 impl Measured {
-    fn judge(&mut self, right: bool) {
-        if !right {
-            self.wrong = self.wrong.saturating_add(1);
+    /// Fills the table. A key's chain holds the keys of its bucket in the order in which they came, so its place there
+    /// is how many cells a search for it looks at.
+    fn fill(&mut self, table: &mut Table<ChildKey>, chains: &mut [u32], count: u32) {
+        for n in 0..count {
+            let key = key_of(n);
+            let chain = chain_of(&key, chains.len());
+            if let Some(length) = chains.get_mut(chain) {
+                *length = length.saturating_add(1);
+                self.hits.add(*length);
+            }
+            self.wrong.add_if(table.insert(key, n).is_err());
         }
     }
 
-    /// Searches for the keys that are there, and for the next ones, which are not.
+    /// Searches for the keys that are there, and for the next ones, which are not. A search for a key that is not there
+    /// looks at the whole chain.
     fn search_all(&mut self, table: &Table<ChildKey>, chains: &[u32], count: u32) {
         for n in 0..count {
-            self.judge(table.find(&key_of(n)) == Some(n));
+            self.wrong.add_if(table.find(&key_of(n)) != Some(n));
             let other = key_of(n.saturating_add(count));
-            self.judge(table.find(&other).is_none());
-            let chain = chain_of(&other, chains.len());
-            if chain < chains.len() {
-                self.misses.add(chains[chain]);
+            self.wrong.add_if(table.find(&other).is_some());
+            if let Some(length) = chains.get(chain_of(&other, chains.len())) {
+                self.misses.add(*length);
             }
         }
     }
@@ -106,28 +107,14 @@ fn chain_of(key: &ChildKey, chains: usize) -> usize {
     key.hash() as usize % chains.max(1)
 }
 
-/// Fills a table to its last cell, then searches for each key and for as many others. A key's chain holds the keys
-/// of its bucket in the order in which they came, so its place there is how many cells a search for it looks at,
-/// and a search for a key that is not there looks at the whole chain.
+/// Fills a table to its last cell, then searches for each key and for as many others.
 pub fn measure(heap: Global, count: u32) -> Result<Measured, AllocError> {
     let size = count as usize;
     let mut cells = vec![in heap; Cell::empty(); size]?;
     let mut table = Table::new(cells.as_mut_slice());
-    let mut chains = vec![in heap; 0u32; size]?;
-    let mut measured = Measured {
-        hits: Reach::new(),
-        misses: Reach::new(),
-        wrong: 0,
-    };
-    for n in 0..count {
-        let key = key_of(n);
-        let chain = chain_of(&key, size);
-        if chain < chains.len() {
-            chains[chain] = chains[chain].saturating_add(1);
-            measured.hits.add(chains[chain]);
-        }
-        measured.judge(table.insert(key, n).is_ok());
-    }
+    let mut chains = vec![in heap; 0; size]?;
+    let mut measured = Measured::default();
+    measured.fill(&mut table, &mut chains, count);
     measured.search_all(&table, &chains, count);
     Ok(measured)
 }

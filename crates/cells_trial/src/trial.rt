@@ -1,22 +1,23 @@
-use crate::plain::{Line, strike, value_of, write};
+use crate::count::Count;
 use crate::random::Random;
 use crate::reach::key_of;
 use cells::cell::Cell;
 use cells::table::Table;
 use keys::child::ChildKey;
 use std::alloc::{AllocError, Global};
+use std::collections::BTreeMap;
 use std::fmt;
 
-/// What the calls of a run met. `wrong` counts the answers that differ from the plain list's.
-#[derive(Clone, Copy)]
+/// What the calls of a run met. `wrong` counts the answers that differ from the map's.
+#[derive(Clone, Copy, Default)]
 pub struct Tally {
-    inserted: u32,
-    refused: u32,
-    found: u32,
-    missed: u32,
-    removed: u32,
-    absent: u32,
-    wrong: u32,
+    inserted: Count,
+    refused: Count,
+    found: Count,
+    missed: Count,
+    removed: Count,
+    absent: Count,
+    wrong: Count,
 }
 
 impl fmt::Display for Tally {
@@ -41,99 +42,69 @@ impl fmt::Display for Tally {
     }
 }
 
-impl Tally {
-    fn new() -> Tally {
-        Tally {
-            inserted: 0,
-            refused: 0,
-            found: 0,
-            missed: 0,
-            removed: 0,
-            absent: 0,
-            wrong: 0,
+/// A table and a map of the standard library, to which the same calls are made.
+#[derive(Drop)]
+struct Trial<'a> {
+    table: Table<'a, ChildKey>,
+    map: BTreeMap<u32, u32>,
+    tally: Tally,
+}
+
+impl Trial<'_> {
+    /// One insertion: refused exactly where the map lacks the key and the cells are all taken.
+    fn insert(&mut self, key: u32, value: u32) -> Result<(), AllocError> {
+        let room = self.map.len() < self.table.capacity() || self.map.contains_key(&key);
+        let accepted = self.table.insert(key_of(key), value).is_ok();
+        self.tally.inserted.add_if(accepted);
+        self.tally.refused.add_if(!accepted);
+        self.tally.wrong.add_if(accepted != room);
+        if accepted {
+            self.map.insert(key, value)?;
         }
+        Ok(())
     }
 
-    fn judge(&mut self, right: bool) {
-        if !right {
-            self.wrong = self.wrong.saturating_add(1);
+    fn find(&mut self, key: u32) {
+        let answer = self.table.find(&key_of(key));
+        self.tally.found.add_if(answer.is_some());
+        self.tally.missed.add_if(answer.is_none());
+        self.tally
+            .wrong
+            .add_if(answer != self.map.get(&key).copied());
+    }
+
+    fn remove(&mut self, key: u32) {
+        let answer = self.table.remove(&key_of(key));
+        self.tally.removed.add_if(answer.is_some());
+        self.tally.absent.add_if(answer.is_none());
+        self.tally.wrong.add_if(answer != self.map.remove(&key));
+    }
+
+    /// One call of a kind that `pick` chooses: half of them are insertions, so that the table fills.
+    fn call(&mut self, pick: u32, key: u32, value: u32) -> Result<(), AllocError> {
+        match pick % 4 {
+            0 => self.find(key),
+            1 => self.remove(key),
+            _ => self.insert(key, value)?,
         }
+        self.tally.wrong.add_if(self.table.len() != self.map.len());
+        Ok(())
     }
-}
-
-/// One insertion: refused exactly where the list has no line for the key and the cells are all taken.
-fn try_insert(
-    table: &mut Table<ChildKey>,
-    lines: &mut Vec<Line>,
-    key: u32,
-    value: u32,
-    tally: &mut Tally,
-) -> Result<(), AllocError> {
-    let room = lines.len() < table.capacity() || value_of(lines, key).is_some();
-    if table.insert(key_of(key), value).is_ok() {
-        tally.judge(room);
-        tally.inserted = tally.inserted.saturating_add(1);
-        write(lines, key, value)?;
-    } else {
-        tally.judge(!room);
-        tally.refused = tally.refused.saturating_add(1);
-    }
-    Ok(())
-}
-
-fn try_find(table: &Table<ChildKey>, lines: &[Line], key: u32, tally: &mut Tally) {
-    let answer = table.find(&key_of(key));
-    tally.judge(answer == value_of(lines, key));
-    if answer.is_some() {
-        tally.found = tally.found.saturating_add(1);
-    } else {
-        tally.missed = tally.missed.saturating_add(1);
-    }
-}
-
-fn try_remove(table: &mut Table<ChildKey>, lines: &mut Vec<Line>, key: u32, tally: &mut Tally) {
-    let answer = table.remove(&key_of(key));
-    tally.judge(answer == value_of(lines, key));
-    strike(lines, key);
-    if answer.is_some() {
-        tally.removed = tally.removed.saturating_add(1);
-    } else {
-        tally.absent = tally.absent.saturating_add(1);
-    }
-}
-
-/// One call of a kind that `pick` chooses: half of them are insertions, so that the table fills.
-fn try_call(
-    table: &mut Table<ChildKey>,
-    lines: &mut Vec<Line>,
-    pick: u32,
-    key: u32,
-    value: u32,
-    tally: &mut Tally,
-) -> Result<(), AllocError> {
-    if pick % 4 == 0 {
-        try_find(table, lines, key, tally);
-        return Ok(());
-    }
-    if pick % 4 == 1 {
-        try_remove(table, lines, key, tally);
-        return Ok(());
-    }
-    try_insert(table, lines, key, value, tally)
 }
 
 /// 10,000 calls with keys chosen from `keys`, in `size` cells.
 pub fn run(heap: Global, keys: u32, size: usize) -> Result<Tally, AllocError> {
     let mut cells = vec![in heap; Cell::empty(); size]?;
-    let mut table = Table::new(cells.as_mut_slice());
-    let mut lines = Vec::new(heap);
+    let mut trial = Trial {
+        table: Table::new(cells.as_mut_slice()),
+        map: BTreeMap::new(heap),
+        tally: Tally::default(),
+    };
     let mut random = Random::new();
-    let mut tally = Tally::new();
     for value in 0..10000 {
-        let key = random.next() % keys.max(1);
-        let pick = random.next();
-        try_call(&mut table, &mut lines, pick, key, value, &mut tally)?;
-        tally.judge(table.len() == lines.len());
+        let key = random.draw() % keys.max(1);
+        let pick = random.draw();
+        trial.call(pick, key, value)?;
     }
-    Ok(tally)
+    Ok(trial.tally)
 }
