@@ -21,6 +21,7 @@ pub(crate) fn seek<K: Key + Copy>(cells: &[Cell<K>], key: &K) -> Option<usize>
         return None;
     }
     let bucket = key.hash() as usize % cells.len();
+    // A loop over links and no iterator, since its measure is the place in the slice, which an iterator would hide.
     let mut link = cells[bucket].head;
     while let Some(at) = link {
         let cell = cells[at];
@@ -54,6 +55,7 @@ fn find_gap<K: Key + Copy>(cells: &[Cell<K>], bucket: usize, f: usize) -> Gap
     requires bucket { bucket < length cells.now }
     ensures { Between K.hashed cells.now bucket f result.before result.after }
 {
+    // A loop, as in `seek`: a walk with an iterator would leave out why it ends.
     let mut before = None;
     let mut after = cells[bucket].head;
     while let Some(at) = after
@@ -87,35 +89,26 @@ pub(crate) fn put<K: Key + Copy>(cells: &mut [Cell<K>], f: usize, entry: Entry<K
 {
     let bucket = entry.key.hash() as usize % cells.len();
     let Gap { before, after } = find_gap(cells, bucket, f);
-    let head = cells[f].head;
-    cells[f] = Cell {
-        entry: Some(entry),
-        next: after,
-        head,
-    };
+    let cell = &mut cells[f];
+    cell.entry = Some(entry);
+    cell.next = after;
     hook(cells, bucket, before, Some(f));
 }
 
 /// Takes the cell `f` out of its chain, and the entry out of the cell.
-pub(crate) fn give_up<K: Key + Copy>(cells: &mut [Cell<K>], f: usize) -> Option<Entry<K>>
+fn give_up<K: Key + Copy>(cells: &mut [Cell<K>], f: usize) -> Option<Entry<K>>
     requires kept { Kept K.hashed cells.old }
     requires inside { f < length cells.old }
     ensures kept { Kept K.hashed cells.new }
     ensures held { held cells.new ≡ slice_set (held cells.old) f None }
     ensures given { result ≡ slice_index_or (held cells.old) f None }
 {
-    let cell = cells[f];
-    let Cell { entry, next, head } = cell;
-    let Some(entry) = entry else {
-        return None;
-    };
+    let entry = cells[f].entry?;
     let bucket = entry.key.hash() as usize % cells.len();
     let Gap { before, .. } = find_gap(cells, bucket, f);
-    cells[f] = Cell {
-        entry: None,
-        next,
-        head,
-    };
+    let cell = &mut cells[f];
+    cell.entry = None;
+    let next = cell.next;
     hook(cells, bucket, before, next);
     Some(entry)
 }

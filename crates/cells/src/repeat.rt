@@ -35,6 +35,7 @@ fn first_repeat(table: &mut Table<SectorNumber>, numbers: &[u32]) -> Option<usiz
     ensures cells { SameCells table.old.cells table.new.cells }
     ensures place { MatchOption result (Distinct numbers.now) (FirstRepeat numbers.now) }
 {
+    // A loop and no `position`, since a closure that puts keys into the table would leave its answers unknown.
     for (place, number) in numbers.iter().enumerate() {
         let key = SectorNumber(*number);
         if table.find(&key).is_some() {

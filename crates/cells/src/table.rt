@@ -10,14 +10,14 @@ mod edits;
 #[derive(Drop)]
 pub struct Table<'a, K: Key> {
     cells: &'a mut [Cell<K>],
+    // Fixed memory: the cells are lent, so the number of keys stands beside them.
     count: usize,
     ghost sound: { ∥ Rules K.hashed K.eq cells.now count ∥₁ },
 }
 
 impl<'a, K: Key + Copy> Table<'a, K> {
-    ghost use Rattle.std.specs.Prelude.{◌≡◌, ◌≤◌, length, MatchOption};
-    ghost use Rattle.cells.specs.Chains.{Kept, Holds, Lacks};
-    ghost use Rattle.cells.specs.Maps.{cells_of, size_of, lookup, Blank, Empty, SameCells};
+    ghost use Rattle.std.specs.Prelude.{◌≡◌};
+    ghost use Rattle.cells.specs.Maps.{cells_of, SameCells, lookup, Blank, Empty};
 
     /// A table without keys; the cells are emptied.
     pub fn new(cells: &'a mut [Cell<K>]) -> Table<'a, K>
@@ -32,9 +32,9 @@ impl<'a, K: Key + Copy> Table<'a, K> {
 }
 
 impl<K: Key + Copy> Table<'_, K> {
-    ghost use Rattle.std.specs.Prelude.{◌≡◌, ◌≤◌, length, MatchOption};
-    ghost use Rattle.cells.specs.Chains.{Kept, Holds, Lacks};
-    ghost use Rattle.cells.specs.Maps.{cells_of, size_of, lookup, Blank, Empty, SameCells};
+    ghost use Rattle.std.specs.Prelude.{◌≡◌, ◌≤◌, MatchOption};
+    ghost use Rattle.cells.specs.Chains.{Holds, Lacks};
+    ghost use Rattle.cells.specs.Maps.{cells_of, size_of, lookup};
 
     /// How many keys there are.
     pub fn len(&self) -> usize

@@ -59,35 +59,6 @@ pub struct Measured {
     wrong: Count,
 }
 
-impl Measured {
-    /// Fills the table. A key's chain holds the keys of its bucket in the order in which they came, so its place there
-    /// is how many cells a search for it looks at.
-    fn fill(&mut self, table: &mut Table<ChildKey>, chains: &mut [u32], count: u32) {
-        for n in 0..count {
-            let key = key_of(n);
-            let chain = chain_of(&key, chains.len());
-            if let Some(length) = chains.get_mut(chain) {
-                *length = length.saturating_add(1);
-                self.hits.add(*length);
-            }
-            self.wrong.add_if(table.insert(key, n).is_err());
-        }
-    }
-
-    /// Searches for the keys that are there, and for the next ones, which are not. A search for a key that is not there
-    /// looks at the whole chain.
-    fn search_all(&mut self, table: &Table<ChildKey>, chains: &[u32], count: u32) {
-        for n in 0..count {
-            self.wrong.add_if(table.find(&key_of(n)) != Some(n));
-            let other = key_of(n.saturating_add(count));
-            self.wrong.add_if(table.find(&other).is_some());
-            if let Some(length) = chains.get(chain_of(&other, chains.len())) {
-                self.misses.add(*length);
-            }
-        }
-    }
-}
-
 impl fmt::Display for Measured {
     fn fmt<W: fmt::Write>(&self, f: &mut fmt::Formatter<W>) -> fmt::Result {
         let Measured {
@@ -102,19 +73,65 @@ impl fmt::Display for Measured {
     }
 }
 
-/// The chain that a key belongs to.
-fn chain_of(key: &ChildKey, chains: usize) -> usize {
-    key.hash() as usize % chains.max(1)
+/// A table, how many keys each of its chains has, and what was measured.
+#[derive(Drop)]
+struct Search<'a> {
+    table: Table<'a, ChildKey>,
+    chains: Vec<u32>,
+    measured: Measured,
+}
+
+impl Search<'_> {
+    /// The chain that a key belongs to.
+    fn chain_of(&self, key: &ChildKey) -> usize {
+        key.hash() as usize % self.chains.len().max(1)
+    }
+
+    /// Puts the keys into the table. A key's chain holds the keys of its bucket in the order in which they came, so its
+    /// place there is how many cells a search for it looks at.
+    fn fill(&mut self, count: u32) {
+        for n in 0..count {
+            let key = key_of(n);
+            let chain = self.chain_of(&key);
+            if let Some(length) = self.chains.get_mut(chain) {
+                *length = length.saturating_add(1);
+                self.measured.hits.add(*length);
+            }
+            self.measured
+                .wrong
+                .add_if(self.table.insert(key, n).is_err());
+        }
+    }
+
+    /// Searches for the keys that are there, and for the next ones, which are not. A search for a key that is not there
+    /// looks at the whole chain.
+    fn search_all(&mut self, count: u32) {
+        for n in 0..count {
+            self.measured
+                .wrong
+                .add_if(self.table.find(&key_of(n)) != Some(n));
+            let other = key_of(n.saturating_add(count));
+            self.measured
+                .wrong
+                .add_if(self.table.find(&other).is_some());
+            let chain = self.chain_of(&other);
+            if let Some(length) = self.chains.get(chain) {
+                self.measured.misses.add(*length);
+            }
+        }
+    }
 }
 
 /// Fills a table to its last cell, then searches for each key and for as many others.
 pub fn measure(heap: Global, count: u32) -> Result<Measured, AllocError> {
     let size = count as usize;
     let mut cells = vec![in heap; Cell::empty(); size]?;
-    let mut table = Table::new(cells.as_mut_slice());
-    let mut chains = vec![in heap; 0; size]?;
-    let mut measured = Measured::default();
-    measured.fill(&mut table, &mut chains, count);
-    measured.search_all(&table, &chains, count);
-    Ok(measured)
+    let mut search = Search {
+        table: Table::new(cells.as_mut_slice()),
+        chains: vec![in heap; 0; size]?,
+        measured: Measured::default(),
+    };
+    search.fill(count);
+    search.search_all(count);
+    Ok(search.measured)
 }

@@ -1,20 +1,22 @@
-use Rattle.std.proofs.Common.{sym, ◌∙◌, arith, rules}
+use Rattle.std.proofs.Common.{◌≡◌, get_or, Some, sym, ap, ◌∙◌, arith, rules}
 use Rattle.std.proofs.lemmas.List.{length-set}
-use Rattle.cells.proofs.Fields.{held_read}
+use Rattle.cells.proofs.Fields.{held_read, reread}
 use Rattle.cells.proofs.Gaps.{before_inside}
 use Rattle.cells.proofs.Moves.{gone_all, gone_none}
 use Rattle.cells.proofs.chain.give_up.Goals as goal
 
+pub returns-in_err-entry-clause-held : goal.returns-in_err-entry-clause-held
+returns-in_err-entry-clause-held g c = gone_none _ _ (get_or c.args.cells.now c.args.f c.index-cells-f.result) c.requires.inside (reread _ _ _ _ c.requires.inside) c.in_err-entry.was
+
 pub hook-requires : goal.hook-requires
 hook-requires g c = record {
   bucket = search rules;
-  inside = λ ne. let h = before_inside g.K.Key.hashed _ _ _ _ _ c.find_gap-before.ensures c.requires.inside ne in simp length-set h;
+  inside = λ i e. let h = before_inside g.K.Key.hashed _ _ _ _ _ c.find_gap-before.ensures c.requires.inside i e in simp length-set h;
 }
 
 pub returns : goal.returns
 returns g c =
-    let d = gone_all g.K.Key.hashed _ _ _ _ _ _ _ _ c.requires.kept (omega arith) c.requires.inside c.index-cells-f.is c.in-Some.is c.hash.ensures.tells c.find_gap-before.ensures c.hook.ensures in
-    record { kept = d.0; held = d.1; given = sym (held_read _ _ _ c.requires.inside c.index-cells-f.is ∙ c.in-Some.is) }
-
-pub returns-in_default : goal.returns-in_default
-returns-in_default g c = record { kept = c.requires.kept; held = gone_none _ _ _ c.requires.inside c.index-cells-f.is c.in_default.is; given = sym (held_read _ _ _ c.requires.inside c.index-cells-f.is ∙ c.in_default.is) }
+    let is = reread _ _ _ _ c.requires.inside in
+    let taken : (get_or c.args.cells.now c.args.f c.index-cells-f-2.result).entry ≡ Some c.in_ok-entry.entry = ap (λ r. r.entry) (reread _ _ c.index-cells-f-2.result c.index-cells-f.result c.requires.inside) ∙ c.in_ok-entry.was in
+    let d = gone_all g.K.Key.hashed _ _ _ _ _ _ c.in_ok-entry.entry (get_or c.args.cells.now c.args.f c.index-cells-f-2.result) c.requires.kept (omega arith) c.requires.inside is taken c.hash.ensures.tells c.find_gap-before.ensures c.hook.ensures in
+    record { kept = d.0; held = d.1; given = sym (held_read _ _ _ c.requires.inside (reread _ _ c.index-cells-f.result _ c.requires.inside) ∙ c.in_ok-entry.was) }
