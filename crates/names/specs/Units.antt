@@ -5,6 +5,7 @@
 --   joined h l      the code point of a pair
 --   codes us        the code points of a list of units, from the front: a high unit with a low one after it is one
 --                   code point, any other unit is one by itself
+--   no_surrogate cs none of the codes is a surrogate
 --   well_formed us  no surrogate stands by itself: every high one is followed by a low one, and no low one is alone
 --   Spells us cs    us is the UTF-16 of the code points cs, one by one
 use Rattle.std.specs.Prelude.{◌≡◌, ℕ, ◌+◌, ◌-◌, ◌*◌, Bool, false, true, cond, not, ◌&&◌, List, [], ◌∷◌, nat_le}

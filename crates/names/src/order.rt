@@ -14,10 +14,9 @@ use std::cmp::Ordering;
 pub fn compare_names<F: Folding>(folding: &F, left: &[u16], right: &[u16]) -> Ordering
     ensures { result ≡ order (key_of (F.folds folding.now) left.now) (key_of (F.folds folding.now) right.now) }
 {
-    match left.len().cmp(&right.len()) {
-        Ordering::Equal => compare_folded(folding, left, right),
-        other => other,
-    }
+    left.len()
+        .cmp(&right.len())
+        .then_with(|| compare_folded(folding, left, right))
 }
 
 fn compare_folded<F: Folding>(folding: &F, left: &[u16], right: &[u16]) -> Ordering
