@@ -5,12 +5,14 @@
 --   tripped l n o                   the fault of the layer l that was made to fail at record n, offset o
 --   unfit_number u                  the number of a refusal to make a store
 --   At f n o                        the fault f tells of record n, offset o
+--   all_of n                        all bytes of the record n
 use Rattle.std.specs.Prelude.{◌≡◌, ℕ}
 use Rattle.stores.specs.declared.fault.Layer.{Layer}
 use Rattle.stores.specs.declared.fault.Layer.TheVariants.{Flat, Sector, Cache, Trip}
 use Rattle.stores.specs.declared.fault.Cause.{Cause}
 use Rattle.stores.specs.declared.fault.Cause.TheVariants.{NotThere, Tripped}
 use Rattle.stores.specs.declared.fault.Fault.{Fault}
+use Rattle.stores.specs.declared.span.Span.{Span}
 use Rattle.stores.specs.declared.unfit.Unfit.{Unfit}
 use Rattle.stores.specs.declared.unfit.Unfit.TheVariants.{FewCells, Repeated, Outside, BadCount}
 
@@ -38,3 +40,6 @@ unfit_number FewCells = 17
 unfit_number (Repeated p) = 53
 unfit_number (Outside p) = 53
 unfit_number BadCount = 53
+
+abbrev pub all_of : ℕ → Span
+all_of n = record { id = n; offset = 0; len = 128 }

@@ -21,10 +21,9 @@ pub fn copy_out(bytes: &[u8], at: usize, into: &mut [u8; DIR_ENTRY_LEN])
     ensures else_kept { length bytes.now < at + 128 → into.new ≡ into.old }
 {
     let len = bytes.len();
-    if len < DIR_ENTRY_LEN || len - DIR_ENTRY_LEN < at {
-        return;
+    if at <= len && DIR_ENTRY_LEN <= len - at {
+        into.copy_from_slice(&bytes[at..at + DIR_ENTRY_LEN]);
     }
-    into.copy_from_slice(&bytes[at..at + DIR_ENTRY_LEN]);
 }
 
 /// Copies bytes over others from a place on, where there are enough of them.
@@ -33,9 +32,7 @@ pub fn copy_in(bytes: &mut [u8], at: usize, from: &[u8])
     ensures else_kept { length bytes.old < at + length from.now → bytes.new ≡ bytes.old }
 {
     let len = bytes.len();
-    if len < from.len() || len - from.len() < at {
-        return;
+    if at <= len && from.len() <= len - at {
+        bytes[at..at + from.len()].copy_from_slice(from);
     }
-    let end = at + from.len();
-    bytes[at..end].copy_from_slice(from);
 }

@@ -1,11 +1,9 @@
 //! Faults: a store call that failed, told whole.
-ghost use Rattle.std.specs.Prelude.{◌≡◌, ◌+◌, ◌<◌, ◌≤◌, MatchResult};
+ghost use Rattle.std.specs.Prelude.{◌≡◌};
 ghost use Rattle.stores.specs.Faults.{layer_number, cause_number, missing, tripped};
 
-use fields::consts::DIR_ENTRY_LEN;
-
 /// The layer of a store that a fault comes from.
-#[derive(Clone, Copy)]
+#[derive(Debug, Clone, Copy, PartialEq, Eq)]
 pub enum Layer {
     /// Records end to end in lent bytes.
     Flat,
@@ -32,7 +30,7 @@ impl Layer {
 }
 
 /// Why a store call failed.
-#[derive(Clone, Copy)]
+#[derive(Debug, Clone, Copy, PartialEq, Eq)]
 pub enum Cause {
     /// The record or the byte is not there.
     NotThere,
@@ -53,7 +51,7 @@ impl Cause {
 }
 
 /// What a store call failed with. A growth and a post have no record of their own: their number and offset are 0.
-#[derive(Clone, Copy)]
+#[derive(Debug, Clone, Copy, PartialEq, Eq)]
 pub struct Fault {
     pub layer: Layer,
     pub cause: Cause,
@@ -74,24 +72,6 @@ impl Fault {
             id,
             offset,
         }
-    }
-
-    /// Names what is not there: a record of a store that has `count` of them, or bytes beyond the record's end.
-    pub fn unless_there(
-        layer: Layer,
-        count: u32,
-        id: u32,
-        offset: u32,
-        len: usize,
-    ) -> Result<(), Fault>
-        ensures { MatchResult result
-            (λ _. (id < count) × (offset + len ≤ 128))
-            (λ f. (f ≡ missing layer id offset) × ((id < count) × (offset + len ≤ 128) → ⊥)) }
-    {
-        if id < count && len <= DIR_ENTRY_LEN && offset as usize <= DIR_ENTRY_LEN - len {
-            return Ok(());
-        }
-        Err(Fault::not_there(layer, id, offset))
     }
 
     /// The fault of a layer that was made to fail.

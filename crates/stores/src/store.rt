@@ -1,12 +1,11 @@
 //! The interface of a store of records.
-ghost use Rattle.std.specs.Prelude.{◌≡◌, length, MatchResult};
+ghost use Rattle.std.specs.Prelude.{◌≡◌, length};
 ghost use Rattle.stores.specs.declared.fault.Layer.{Layer};
 ghost use Rattle.stores.specs.declared.fault.Fault.{Fault};
-ghost use Rattle.stores.specs.Meaning.{Meaning, Beside, Whole, with_bytes, with_count, growths_held};
-ghost use Rattle.stores.specs.Answers.{Given, NotGiven, Inside, NotWritten, Grew, NotGrown, NotPosted};
+ghost use Rattle.stores.specs.Meaning.{Meaning, Beside, Whole};
+ghost use Rattle.stores.specs.Answers.{Reads, Writes, Grows, Posts};
 
 use crate::fault::Fault;
-use crate::growth::Growth;
 use fields::consts::{DIR_ENTRY_LEN, MAX_REGULAR_STREAM_ID};
 use fields::version::Version;
 
@@ -51,39 +50,30 @@ pub trait RecordStore {
     fn growths_left(&self) -> u32
         ensures { result ≡ (meaning self.now).left };
 
-    /// States what holds of every store's sizes, for proofs to call; it does nothing.
-    fn keeps_sizes(&self)
-        ensures { Whole (meaning self.now) };
-
     /// Reads a record. On a fault the caller's bytes may hold anything.
     fn read(&mut self, number: u32, into: &mut [u8; DIR_ENTRY_LEN]) -> Result<(), Fault>
         ensures beside { beside self.new ≡ beside self.old }
         ensures kept { meaning self.new ≡ meaning self.old }
-        ensures answer { MatchResult result
-            (λ _. Given (meaning self.old) number into.new)
-            (λ f. NotGiven layer faults (meaning self.old) number f) };
+        ensures answer { Reads layer faults (meaning self.old) number into.new result };
 
     /// Writes the bytes into one record, from the offset on. On a fault that record alone may hold anything.
     fn write(&mut self, number: u32, offset: u32, bytes: &[u8]) -> Result<(), Fault>
         ensures beside { beside self.new ≡ beside self.old }
-        ensures answer { MatchResult result
-            (λ _. Inside (meaning self.old) number offset (length bytes.now)
-            × (meaning self.new ≡ with_bytes (meaning self.old) number offset bytes.now))
-            (λ f. NotWritten layer faults (meaning self.old) number offset (length bytes.now) f (meaning self.new)) };
+        ensures answer { Writes layer faults (meaning self.old) number offset bytes.now result (meaning self.new) };
 
-    /// Adds one growth of freed records, where one is left. On a fault the growths left and whatever lies beyond the old
-    /// records may be anything.
-    fn grow(&mut self) -> Result<Growth<Self::Slip>, Fault>
+    /// Adds one growth of freed records and hands out its slip, which is owed to `post`; or nothing, where no growth is
+    /// left, and nothing was changed. On a fault the growths left and whatever lies beyond the old records may be
+    /// anything.
+    fn grow(&mut self) -> Result<Option<Self::Slip>, Fault>
         ensures beside { beside self.new ≡ beside self.old }
-        ensures answer { MatchResult result
-            (λ g. Grew (meaning self.old) (meaning self.new) g)
-            (λ f. NotGrown faults (meaning self.old) (meaning self.new) f) };
+        ensures answer { Grows faults (meaning self.old) result (meaning self.new) };
 
     /// Takes a growth's slip back and sets the count to the growths held, where one is kept. On a fault the count may be
     /// anything; the slip is spent all the same.
     fn post(&mut self, slip: Self::Slip) -> Result<(), Fault>
         ensures beside { beside self.new ≡ beside self.old }
-        ensures answer { MatchResult result
-            (λ _. meaning self.new ≡ with_count (meaning self.old) (growths_held (meaning self.old)))
-            (λ f. NotPosted faults (meaning self.old) (meaning self.new) f) };
+        ensures answer { Posts faults (meaning self.old) result (meaning self.new) };
+
+    /// What holds of every store's sizes.
+    ghost whole: { (s : Self) → Whole (meaning s) };
 }
