@@ -1,17 +1,17 @@
 //! A store of records end to end in lent bytes.
 #![tactic(auto)]
 
-ghost use Rattle.std.specs.Prelude.{◌≡◌, ◌<◌, ◌≤◌, min, MatchResult};
+ghost use Rattle.std.specs.Prelude.{◌≡◌, ◌<◌, ◌≤◌, MatchResult};
 ghost use Rattle.stores.specs.declared.fault.Layer.TheVariants.{Flat};
-ghost use Rattle.stores.specs.declared.unfit.Unfit.TheVariants.{BadCount};
 ghost use Rattle.stores.specs.Places.{record_at};
-ghost use Rattle.flat_store.specs.Flat.{place, room, meant, beside_of};
+ghost use Rattle.flat_store.specs.Flat.{place, room, flat, flat_beside};
+ghost use Rattle.flat_store.specs.Wholes.{whole};
 
 use fields::consts::DIR_ENTRY_LEN;
 use fields::version::Version;
 use stores::bytes::{copy_in, copy_out, freed_record};
 use stores::fault::{Fault, Layer};
-use stores::growth::Growth;
+use stores::span::Span;
 use stores::store::{MAX_RECORDS, RecordStore};
 use stores::unfit::Unfit;
 
@@ -20,8 +20,10 @@ pub struct FlatStore<'a> {
     bytes: &'a mut [u8],
     version: Version,
     count: u32,
+    ghost fits: { count ≤ room bytes.now },
 }
 
+// A type of its own: its field is private to the store, so that nothing else makes one.
 /// The slip of a growth.
 pub struct FlatSlip(());
 
@@ -32,7 +34,7 @@ impl<'a> FlatStore<'a> {
             (λ s. (count ≤ room bytes.old)
             × (s.bytes.ghost_name ≡ bytes.entry.ghost_name) × (s.bytes.now ≡ bytes.old)
             × (s.version ≡ version) × (s.count ≡ count))
-            (λ e. (room bytes.old < count) × (e ≡ BadCount)) }
+            (λ e. (room bytes.old < count) × (e ≡ Unfit.BadCount)) }
     {
         if room_in(bytes) < count {
             return Err(Unfit::BadCount);
@@ -46,26 +48,13 @@ impl<'a> FlatStore<'a> {
 }
 
 impl FlatStore<'_> {
-    /// How many records the bytes have room for.
-    fn room(&self) -> u32
-        ensures { result ≡ room self.now.bytes.now }
-    {
-        room_in(self.bytes)
-    }
-
-    /// Copies a record out, where it is there.
+    // By `&self`: bytes that are lent through a `&mut self` are not known to stand afterwards.
+    /// Copies a record out.
     fn copy_record(&self, number: u32, into: &mut [u8; DIR_ENTRY_LEN])
-        requires { number < room self.now.bytes.now }
+        requires { number < self.now.count }
         ensures { into.new ≡ record_at self.now.bytes.now (place number) }
     {
         copy_out(self.bytes, number as usize * DIR_ENTRY_LEN, into);
-    }
-
-    /// How many records there are.
-    fn held(&self) -> u32
-        ensures { result ≡ min self.now.count (room self.now.bytes.now) }
-    {
-        self.count.min(self.room())
     }
 }
 
@@ -73,20 +62,15 @@ impl FlatStore<'_> {
 fn room_in(bytes: &[u8]) -> u32
     ensures { result ≡ room bytes.now }
 {
-    let room = bytes.len() / DIR_ENTRY_LEN;
-    if room < MAX_RECORDS as usize {
-        room as u32
-    } else {
-        MAX_RECORDS
-    }
+    (bytes.len() / DIR_ENTRY_LEN).min(MAX_RECORDS as usize) as u32
 }
 
 impl RecordStore for FlatStore<'_> {
     type Slip = FlatSlip;
 
-    ghost meaning = { meant };
+    ghost meaning = { λ s. flat s.version s.bytes.now s.count };
 
-    ghost beside = { beside_of };
+    ghost beside = { λ s. flat_beside s.bytes.ghost_name s.bytes.now };
 
     ghost layer = { Flat };
 
@@ -97,7 +81,7 @@ impl RecordStore for FlatStore<'_> {
     }
 
     fn record_count(&self) -> u32 {
-        self.held()
+        self.count
     }
 
     fn growth_size(&self) -> u32 {
@@ -105,41 +89,41 @@ impl RecordStore for FlatStore<'_> {
     }
 
     fn growths_left(&self) -> u32 {
-        self.room() - self.held()
+        room_in(self.bytes) - self.count
     }
 
-    fn keeps_sizes(&self) {}
-
     fn read(&mut self, number: u32, into: &mut [u8; DIR_ENTRY_LEN]) -> Result<(), Fault> {
-        let count = self.held();
-        Fault::unless_there(Layer::Flat, count, number, 0, DIR_ENTRY_LEN)?;
+        Span::all_of(number).within(self.count, Layer::Flat)?;
         self.copy_record(number, into);
         Ok(())
     }
 
     fn write(&mut self, number: u32, offset: u32, bytes: &[u8]) -> Result<(), Fault> {
-        let count = self.held();
-        Fault::unless_there(Layer::Flat, count, number, offset, bytes.len())?;
-        copy_in(
-            self.bytes,
-            number as usize * DIR_ENTRY_LEN + offset as usize,
-            bytes,
-        );
+        let span = Span {
+            id: number,
+            offset,
+            len: bytes.len(),
+        };
+        span.within(self.count, Layer::Flat)?;
+        let at = number as usize * DIR_ENTRY_LEN + offset as usize;
+        copy_in(self.bytes, at, bytes);
         Ok(())
     }
 
-    fn grow(&mut self) -> Result<Growth<FlatSlip>, Fault> {
-        let count = self.held();
-        if count == self.room() {
-            return Ok(Growth::NoRoom);
+    fn grow(&mut self) -> Result<Option<FlatSlip>, Fault> {
+        if self.growths_left() == 0 {
+            return Ok(None);
         }
-        copy_in(self.bytes, count as usize * DIR_ENTRY_LEN, &freed_record());
-        self.count = count + 1;
-        Ok(Growth::Grown(FlatSlip(())))
+        let at = self.count as usize * DIR_ENTRY_LEN;
+        copy_in(self.bytes, at, &freed_record());
+        self.count += 1;
+        Ok(Some(FlatSlip(())))
     }
 
     fn post(&mut self, slip: FlatSlip) -> Result<(), Fault> {
         let FlatSlip(()) = slip;
         Ok(())
     }
+
+    ghost whole = { λ s. whole s.version s.bytes.now s.count s.fits };
 }
