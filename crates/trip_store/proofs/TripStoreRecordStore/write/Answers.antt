@@ -9,13 +9,13 @@ use Rattle.trip_store.proofs.TripStoreRecordStore.write.Goals as goal
 pub returns-then-self-eq0 : goal.returns-then-self-eq0
 returns-then-self-eq0 g c =
     let m = g.S.RecordStore.meaning c.args.self.now.inner in
-    let there = c.in_ok-unless_there.ensures in
-    let inside : Inside m c.args.number c.args.offset (length c.args.bytes.now) = (omega (arith, there.0, c.record_count-count.ensures), there.1) in
+    let there = c.in_ok-within.ensures in
+    let inside : Inside m c.args.number c.args.offset (length c.args.bytes.now) = (omega (arith, there.0, c.record_count.ensures), there.1) in
     let e = c.tripped.ensures in
     record {
       beside = refl;
       answer = unwritten Trip (TripsOr g.S.RecordStore.faults) m c.args.number c.args.offset (length c.args.bytes.now) c.tripped.result
-          c.keeps_sizes.ensures (ap (λ (f : Fault). f.id) e, ap (λ (f : Fault). f.offset) e) inside (inl (ap (λ (f : Fault). f.layer) e, ap (λ (f : Fault). f.cause) e));
+          (g.met.S.RecordStore.whole c.args.self.now.inner) (ap (λ (f : Fault). f.id) e, ap (λ (f : Fault). f.offset) e) inside (inl (ap (λ (f : Fault). f.layer) e, ap (λ (f : Fault). f.cause) e));
       counts = record {
         trips = λ _ _. ap (λ (f : Fault). Err f) e;
         passes = λ _ more. absurd (omega (arith, more));
