@@ -1,3 +1,3 @@
+pub mod Put
 pub mod LaidOver
-pub mod Kept
 pub mod ThroughCopies

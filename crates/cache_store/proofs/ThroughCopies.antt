@@ -1,101 +1,128 @@
 -- What the store below answers, as the store with copies laid over it answers it.
-use Rattle.std.proofs.Common.{◌≡◌, ℕ, ◌+◌, ◌-◌, ◌/◌, ◌^◌, ◌<◌, ◌≤◌, Bool, cond, ltb, ◌⊎◌, List, [], length, get_or, replicate, Ok, Err, Result, sym, ap, ◌∙◌, inl, inr, ⊎_elim, arith, le-ltb, lt-ltb, MatchResult}
-use Rattle.std.proofs.lemmas.List.{length-append}
-use Rattle.std.proofs.lemmas.Bool.{cases_lt}
+use Rattle.std.proofs.Common.{◌≡◌, ℕ, ◌-◌, ◌/◌, ◌<◌, ◌≤◌, Bool, cond, ltb, List, [], length, map, get_or, set, replicate, Some, None, Option, Ok, Err, Result, sym, refl, ap, ◌∙◌, ⊎_elim, subst, arith, rules, le-ltb, lt-ltb}
+use Rattle.std.specs.Prelude.{IsSome}
+use Rattle.std.specs.List.{position}
+use lib.Seq.{paste}
+use Rattle.std.proofs.lemmas.List.{length-set, get_or-set_same, get_or-set_other, set-get_or}
+use Rattle.std.proofs.lemmas.Bool.{cases_eq, cases_lt}
 use Rattle.stores.specs.declared.fault.Fault.{Fault}
 use Rattle.stores.specs.declared.fault.Layer.{Layer}
-use Rattle.stores.specs.declared.growth.Growth.{Growth}
-use Rattle.stores.specs.declared.growth.Growth.TheVariants.{NoRoom, Grown}
-use Rattle.stores.specs.Meaning.{Meaning, Whole, with_count, growths_held, freed}
-use Rattle.stores.specs.Answers.{NotGiven, Inside, NotWritten, Grew, NotGrown, NotPosted}
-use Rattle.cache_store.specs.declared.copies.Copies.{Copies}
-use Rattle.cache_store.specs.Copies.{numbers, laid, Lacks, added, Remembers, no_number, Sizes}
-use Rattle.cache_store.proofs.Kept.{length-laid, laid-added, laid_free, laid_forgotten, laid_grown, laid_behind}
+use Rattle.stores.specs.Meaning.{Meaning, Whole, with_record, with_bytes, with_growth, with_count, freed}
+use Rattle.stores.specs.Answers.{NotGiven, Inside, NotWritten, Grows, Posts}
+use Rattle.cache_store.specs.declared.copied.Copied.{Copied}
+use Rattle.cache_store.specs.Copies.{Sized, blank, over, laid, is_of, forgotten, added, patched, Remembers}
+use Rattle.cache_store.specs.Wholes.{length_over, sized_over}
+use Rattle.cache_store.proofs.LaidOver.{Lacks, First, over_push, over_miss, get_or_miss, over_free, get_or_hit, over_hit, over_grown, over_behind, over_forgotten}
+
+-- the records of a store changed, and all else as it was
+abbrev with_records : Meaning → List (List ℕ) → Meaning
+with_records m rs = record { version = m.version; records = rs; growth = m.growth; left = m.left; posted = m.posted }
+
+pub length-laid : (xs : List Copied) (m : Meaning) → length (laid xs m).records ≡ length m.records
+length-laid xs m = length_over xs m.records
+
+-- bytes written below and to the copy, where there is one
+pub laid-patched : (xs : List Copied) (m : Meaning) (n i o : ℕ) (bs : List ℕ) → First xs n i → n < length m.records → laid (patched xs i o bs) (with_bytes m n o bs) ≡ with_bytes (laid xs m) n o bs
+laid-patched xs m n i o bs f h =
+    let g = get_or_hit xs m.records n i f h in
+    ap (with_records m)
+    (over_hit xs m.records n i (paste (get_or m.records n []) o bs (length bs)) (paste (get_or xs i blank).bytes o bs (length bs)) f
+    ∙ ap (λ (x : List ℕ). set (over xs m.records) n (paste x o bs (length bs))) (sym g))
+
+pub laid_through : (xs : List Copied) (m : Meaning) (n o : ℕ) (bs : List ℕ) → Lacks xs n → laid xs (with_bytes m n o bs) ≡ with_bytes (laid xs m) n o bs
+laid_through xs m n o bs lacks =
+    ap (with_records m)
+    (over_miss xs m.records n (paste (get_or m.records n []) o bs (length bs)) lacks
+    ∙ ap (λ (x : List ℕ). set (over xs m.records) n (paste x o bs (length bs))) (sym (get_or_miss xs m.records n lacks)))
+
+sized_set : (bs : List (List ℕ)) (n : ℕ) (y : List ℕ) → ((k : ℕ) → k < length bs → length (get_or bs k []) ≡ 128) → length y ≡ 128
+    → (k : ℕ) → k < length (set bs n y) → length (get_or (set bs n y) k []) ≡ 128
+sized_set bs n y hb l k h =
+    let ls = length-set bs n y in
+    ⊎_elim
+    (λ (e : k ≡ n). rw e (ap length (get_or-set_same bs n y [] (omega (arith, ls))) ∙ l))
+    (λ (ne : k ≡ n → ⊥). ap length (get_or-set_other bs n k y [] ne) ∙ hb k (omega (arith, ls)))
+    (cases_eq k n)
+
+-- a record that may be anything below
+laid_free : (xs : List Copied) (m : Meaning) (n : ℕ) (y : List ℕ) → Sized xs → Whole m → length y ≡ 128 → n < length m.records
+    → (r : List ℕ) × (length r ≡ 128) × (laid xs (with_record m n y) ≡ with_record (laid xs m) n r)
+laid_free xs m n y s w l h =
+    let r : List ℕ = get_or (over xs (set m.records n y)) n [] in
+    let lr : length r ≡ 128 = sized_over xs (set m.records n y) s (sized_set m.records n y w.sized l) n
+    (omega (arith, h, length_over xs (set m.records n y), length-set m.records n y)) in
+    (r, lr, ap (with_records m) (over_free xs m.records n y))
 
 -- a count passes through
-pub posts_through : {T : Type 0} (p : Fault → Type 0) (c : Copies) (m m' : Meaning) (r : Result T Fault)
-    → MatchResult r (λ _. m' ≡ with_count m (growths_held m)) (λ f. NotPosted p m m' f)
-    → MatchResult r (λ _. laid c m' ≡ with_count (laid c m) (growths_held (laid c m))) (λ f. NotPosted p (laid c m) (laid c m') f)
-posts_through p c m m' (Ok x) h = ap (laid c) h ∙ ap (λ k. with_count (laid c m) (k / m.growth)) (sym (length-laid c m))
-posts_through p c m m' (Err f) h = record { at = h.at; present = h.present; free = (h.free.0, ap (laid c) h.free.1) }
+pub posts_through : {T : Type 0} (p : Fault → Type 0) (xs : List Copied) (m m' : Meaning) (r : Result T Fault) → Posts p m r m' → Posts p (laid xs m) r (laid xs m')
+posts_through p xs m m' (Ok x) h = ap (laid xs) h ∙ ap (λ k. with_count (laid xs m) (k / m.growth)) (sym (length-laid xs m))
+posts_through p xs m m' (Err f) h = record { at = h.at; present = h.present; free = (h.free.0, ap (laid xs) h.free.1) }
 
 -- a fault of reading
-pub not_given_through : (l k : Layer) (p : Fault → Type 0) (c : Copies) (m : Meaning) (n : ℕ) (f : Fault) → n < length m.records → NotGiven l p m n f → NotGiven k p (laid c m) n f
-not_given_through l k p c m n f there h = record {
+pub not_given_through : (l k : Layer) (p : Fault → Type 0) (xs : List Copied) (m : Meaning) (n : ℕ) (f : Fault) → n < length m.records → NotGiven l p m n f → NotGiven k p (laid xs m) n f
+not_given_through l k p xs m n f there h = record {
   at = h.at;
   present = λ _. h.present there;
-  absent = λ out. absurd (omega (arith, out, length-laid c m));
+  absent = λ out. absurd (omega (arith, out, length-laid xs m));
 }
 
 -- a fault of writing
-pub not_written_through : (l k : Layer) (p : Fault → Type 0) (c : Copies) (m m' : Meaning) (n o b : ℕ) (f : Fault) → Sizes c → Whole m → Inside m n o b → NotWritten l p m n o b f m'
-    → NotWritten k p (laid c m) n o b f (laid c m')
-not_written_through l k p c m m' n o b f s w inside h =
+pub not_written_through : (l k : Layer) (p : Fault → Type 0) (xs : List Copied) (m m' : Meaning) (n o b : ℕ) (f : Fault) → Sized xs → Whole m → Inside m n o b → NotWritten l p m n o b f m'
+    → NotWritten k p (laid xs m) n o b f (laid xs m')
+not_written_through l k p xs m m' n o b f s w inside h =
     let x = h.free inside in
-    let y = laid_free c m n x.0 s w x.1 inside.0 in
+    let y = laid_free xs m n x.0 s w x.1 inside.0 in
     record {
       at = h.at;
       present = λ _. h.present inside;
-      free = λ _. (y.0, y.1, ap (laid c) x.2 ∙ y.2);
-      absent = λ out. absurd (out (omega (arith, inside.0, length-laid c m), inside.1));
+      free = λ _. (y.0, y.1, ap (laid xs) x.2 ∙ y.2);
+      absent = λ out. absurd (out (omega (arith, inside.0, length-laid xs m), inside.1));
     }
 
--- numbers of records that are there, or of none
-abbrev pub Clean : Copies → ℕ → Type 0
-Clean c n = (k : ℕ) → k < 16 → (get_or c.ids k 0 < n) ⊎ (get_or c.ids k 0 ≡ no_number)
+-- what was forgotten does not show
+forgotten_same : (n : ℕ) (xs : List Copied) (m : Meaning) → n ≡ length m.records → laid (map (forgotten n) xs) m ≡ laid xs m
+forgotten_same n xs m e = ap (with_records m) (over_forgotten n xs m.records e)
 
--- growing
-pub grows_through : {T : Type 0} (p : Fault → Type 0) (c : Copies) (m m' : Meaning) (r : Result (Growth T) Fault) → Sizes c → Clean c (length m.records) → length m'.records < 2 ^ 32
-    → MatchResult r (λ g. Grew m m' g) (λ f. NotGrown p m m' f)
-    → MatchResult r (λ g. Grew (laid c m) (laid c m') g) (λ f. NotGrown p (laid c m) (laid c m') f)
-grows_through p c m m' (Ok NoRoom) s clean few h = (h.0, ap (laid c) h.1)
-grows_through p c m m' (Ok (Grown slip)) s clean few h =
-    let l : length m'.records ≡ length m.records + length (replicate m.growth freed) = ap (λ (x : Meaning). length x.records) h.1 ∙ length-append m.records (replicate m.growth freed) in (
-      h.0,
-      ap (laid c) h.1 ∙ laid_grown c m (replicate m.growth freed) (m.left - 1) s
-          (λ k lt. ⊎_elim (λ (a : get_or c.ids k 0 < length m.records). inl a) (λ (b : get_or c.ids k 0 ≡ no_number). inr (omega arith)) (clean k lt)),
-    )
-grows_through p c m m' (Err f) s clean few h =
-    let b = laid_behind c m h.free.0 h.free.1 in
-    record { at = h.at; present = h.present; some = h.some; free = (b.0, h.free.1, ap (laid c) h.free.2 ∙ b.1) }
-
-forgotten_cases : (x n : ℕ) → n ≤ no_number → ((cond (ltb x n) x no_number ≡ x) × (x < n)) ⊎ ((cond (ltb x n) x no_number ≡ no_number) × (n ≤ x))
-forgotten_cases x n h = ⊎_elim
-    (λ (lt : x < n). inl (ap (λ (b : Bool). cond b x no_number) (lt-ltb x n lt), lt))
-    (λ (ge : n ≤ x). inr (ap (λ (b : Bool). cond b x no_number) (le-ltb x n ge), ge))
-    (cases_lt x n)
-
--- what is forgotten did not show, and what is left is clean
-pub forgotten_same : (c c' : Copies) (m : Meaning) (n : ℕ) → n ≡ length m.records → n ≤ no_number → Sizes c → Sizes c' → c'.len ≡ c.len → c'.bytes ≡ c.bytes
-    → ((k : ℕ) → k < 16 → get_or c'.ids k 0 ≡ cond (ltb (get_or c.ids k 0) n) (get_or c.ids k 0) no_number)
-    → (laid c' m ≡ laid c m) × Clean c' (length m.records)
-forgotten_same c c' m n en hn s s' el eb h = (
-  laid_forgotten c c' m s s' el eb
-      (λ k lt. ⊎_elim
-      (λ (a : (cond (ltb (get_or c.ids k 0) n) (get_or c.ids k 0) no_number ≡ get_or c.ids k 0) × (get_or c.ids k 0 < n)). inl (h k lt ∙ a.0))
-      (λ (b : (cond (ltb (get_or c.ids k 0) n) (get_or c.ids k 0) no_number ≡ no_number) × (n ≤ get_or c.ids k 0)).
-      let e : get_or c'.ids k 0 ≡ no_number = h k lt ∙ b.0 in inr (omega (arith, b.1), omega arith))
-      (forgotten_cases (get_or c.ids k 0) n hn)),
-  λ k lt. ⊎_elim
-      (λ (a : (cond (ltb (get_or c.ids k 0) n) (get_or c.ids k 0) no_number ≡ get_or c.ids k 0) × (get_or c.ids k 0 < n)).
-      let e : get_or c'.ids k 0 ≡ get_or c.ids k 0 = h k lt ∙ a.0 in inl (omega (arith, a.1)))
-      (λ (b : (cond (ltb (get_or c.ids k 0) n) (get_or c.ids k 0) no_number ≡ no_number) × (n ≤ get_or c.ids k 0)). inr (h k lt ∙ b.0))
-      (forgotten_cases (get_or c.ids k 0) n hn),
+grown_through : {T : Type 0} (p : Fault → Type 0) (n : ℕ) (xs : List Copied) (m m' : Meaning) (r : Result (Option T) Fault) → n ≡ length m.records
+    → Grows p m r m' → Grows p (laid (map (forgotten n) xs) m) r (laid (map (forgotten n) xs) m')
+grown_through p n xs m m' (Ok None) e h = (h.0, ap (laid (map (forgotten n) xs)) h.1)
+grown_through p n xs m m' (Ok (Some slip)) e h = (
+  h.0,
+  ap (laid (map (forgotten n) xs)) h.1
+      ∙ ap (with_records (with_growth m (replicate m.growth freed) (m.left - 1))) (over_grown n xs m.records (replicate m.growth freed) e),
 )
+grown_through p n xs m m' (Err f) e h =
+    let b = over_behind (map (forgotten n) xs) m.records h.free.0 in
+    record { at = h.at; present = h.present; some = h.some; free = (b.0, h.free.1, ap (laid (map (forgotten n) xs)) h.free.2 ∙ ap (with_records (with_growth m h.free.0 h.free.1)) b.1) }
+
+-- growing, once what is not there was forgotten
+pub grows_through : {T : Type 0} (p : Fault → Type 0) (n : ℕ) (xs : List Copied) (m m' : Meaning) (r : Result (Option T) Fault) → n ≡ length m.records
+    → Grows p m r m' → Grows p (laid xs m) r (laid (map (forgotten n) xs) m')
+grows_through p n xs m m' r e h =
+    subst (λ (x : Meaning). Grows p x r (laid (map (forgotten n) xs) m')) (forgotten_same n xs m e) (grown_through p n xs m m' r e h)
+
+-- a record that has a copy is kept by it
+pub remembered_again : (xs : List Copied) (n i : ℕ) (r : List ℕ) → position (is_of n) xs ≡ Some i → Remembers xs n r xs
+remembered_again xs n i r e = record { again = λ _. refl; anew = λ none _. absurd cc; full = λ _ _. refl }
 
 -- a record that is read below is remembered, and nothing else changes
-pub remembered_same : (c c' : Copies) (m : Meaning) (n : ℕ) (r : List ℕ) → Sizes c → length r ≡ 128 → r ≡ get_or m.records n [] → Lacks (numbers c) n
-    → c' ≡ cond (ltb c.len 16) (added c n r) c → (laid c' m ≡ laid c m) × Remembers c n r c'
-remembered_same c c' m n r s l e lacks k =
+pub remembered_same : (xs ys : List Copied) (m : Meaning) (n : ℕ) (r : List ℕ) → r ≡ get_or m.records n [] → position (is_of n) xs ≡ None
+    → ys ≡ cond (ltb (length xs) 16) (added xs n r) xs → (laid ys m ≡ laid xs m) × Remembers xs n r ys
+remembered_same xs ys m n r e none k =
     ⊎_elim
-    (λ (lt : c.len < 16).
-    let a : c' ≡ added c n r = k ∙ ap (λ (b : Bool). cond b (added c n r) c) (lt-ltb c.len 16 lt) in (
-      ap (λ (x : Copies). laid x m) a ∙ laid-added c m n r s lt l e,
-      record { again = λ i f. absurd (lacks i f.within f.is); anew = λ _ _. a; full = λ _ ge. absurd (omega (arith, lt, ge)) },
+    (λ (lt : length xs < 16).
+    let a : ys ≡ added xs n r = k ∙ ap (λ (b : Bool). cond b (added xs n r) xs) (lt-ltb (length xs) 16 lt) in
+    let same : over (added xs n r) m.records ≡ over xs m.records
+    = over_push xs m.records n r ∙ ap (over xs) (ap (set m.records n) e ∙ set-get_or m.records n []) in (
+      ap (λ (zs : List Copied). laid zs m) a ∙ ap (with_records m) same,
+      record { again = λ some. absurd (lost none some); anew = λ _ _. a; full = λ _ ge. absurd (omega (arith, lt, ge)) },
     ))
-    (λ (ge : 16 ≤ c.len).
-    let a : c' ≡ c = k ∙ ap (λ (b : Bool). cond b (added c n r) c) (le-ltb c.len 16 ge) in (
-      ap (λ (x : Copies). laid x m) a,
-      record { again = λ i f. a; anew = λ _ lt. absurd (omega (arith, lt, ge)); full = λ _ _. a },
+    (λ (ge : 16 ≤ length xs).
+    let a : ys ≡ xs = k ∙ ap (λ (b : Bool). cond b (added xs n r) xs) (le-ltb (length xs) 16 ge) in (
+      ap (λ (zs : List Copied). laid zs m) a,
+      record { again = λ _. a; anew = λ _ lt. absurd (omega (arith, lt, ge)); full = λ _ _. a },
     ))
-    (cases_lt c.len 16)
+    (cases_lt (length xs) 16)
+  where
+    lost : {o : Option ℕ} → o ≡ None → IsSome o → ⊥
+    lost {o} e some = let s = subst IsSome e some in search rules

@@ -1,61 +1,69 @@
 -- Copies of records, and what a store means with copies laid over it.
 --
---   held c               how many copies there are
---   numbers c, copied c  the numbers of the records, and the copies
---   over ns rs bs        the records bs with rs laid over them: the record of number n in ns is its first copy in rs
---   laid c m             what a store means that means m with the copies c laid over it
---   Lacks ns n           n is none of the numbers
---   First ns n i         n stands at place i of the numbers, and at none before it
---   added c n r          one copy more: r, of the record n
---   patched c i o bs     the bytes bs stand in the copy at place i from the offset o on
---   Remembers c n r c'   c became c' when the record n was read as r: one copy more, if it had none and there was room
---   no_number            the number that no record has
---   Sizes c              the arrays have the lengths that they are declared with
-use Rattle.std.specs.Prelude.{◌≡◌, ℕ, ◌+◌, ◌*◌, ◌<◌, ◌≤◌, min, List, [], ◌∷◌, length, take, ◌≢◌, slice_index, slice_index_or, slice_set}
+--   number_is n o        whether a copy's number is n
+--   is_of n x            whether x is a copy of the record n
+--   copy_of n r          the copy of the record n, which is r
+--   rewritten x o bs     x with the bytes bs in it from the offset o on
+--   below n o            a copy's number, or none where it is not below n
+--   forgotten n x        x, as a copy of no record if that of which it is one has no number below n
+--   put o r bs           the records bs with the copy r laid over them, of the record whose number is o
+--   over xs bs           the records bs with the copies xs laid over them: a record is its first copy
+--   laid xs m            what a store means that means m with the copies xs laid over it
+--   added xs n r         one copy more: r, of the record n
+--   patched xs i o bs    the bytes bs stand in the copy at place i from the offset o on
+--   Remembers xs n r ys  xs became ys when the record n was read as r: one copy more, if it had none and there was room
+--   Sized xs             the copies have 128 bytes
+--   blank                a copy of no record, without bytes
+use Rattle.std.specs.Prelude.{◌≡◌, ℕ, ◌<◌, ◌≤◌, Bool, false, List, [], ◌∷◌, ◌++◌, length, Some, None, Option, IsSome, if◌then◌else◌, nat_eq, nat_lt, slice_index_or, slice_set}
+use Rattle.std.specs.List.{position}
 use Rattle.std.proofs.Math.Seq.{paste}
 use Rattle.stores.specs.Meaning.{Meaning}
-use Rattle.stores.specs.Places.{records_at}
-use Rattle.cache_store.specs.declared.copies.Copies.{Copies}
+use Rattle.cache_store.specs.declared.copied.Copied.{Copied}
 
-abbrev pub no_number : ℕ
-no_number = 0xffff_ffff
+abbrev pub number_is : ℕ → Option ℕ → Bool
+number_is n None = false
+number_is n (Some k) = nat_eq k n
 
-abbrev pub held : Copies → ℕ
-held c = min c.len 16
+abbrev pub is_of : ℕ → Copied → Bool
+is_of n x = number_is n x.id
 
-abbrev pub numbers : Copies → List ℕ
-numbers c = take (held c) c.ids
+abbrev pub copy_of : ℕ → List ℕ → Copied
+copy_of n r = record { id = Some n; bytes = r }
 
-abbrev pub copied : Copies → List (List ℕ)
-copied c = records_at c.bytes (λ k. k * 128) (held c)
+abbrev pub blank : Copied
+blank = record { id = None; bytes = [] }
 
-abbrev pub over : List ℕ → List (List ℕ) → List (List ℕ) → List (List ℕ)
-over [] rs bs = bs
-over (n ∷ ns) [] bs = bs
-over (n ∷ ns) (r ∷ rs) bs = slice_set (over ns rs bs) n r
+abbrev pub rewritten : Copied → ℕ → List ℕ → Copied
+rewritten x o bs = record { id = x.id; bytes = paste x.bytes o bs (length bs) }
 
-abbrev pub laid : Copies → Meaning → Meaning
-laid c m = record { version = m.version; records = over (numbers c) (copied c) m.records; growth = m.growth; left = m.left; posted = m.posted }
+abbrev pub below : ℕ → Option ℕ → Option ℕ
+below n None = None
+below n (Some k) = (if nat_lt k n then Some k else None)
 
-abbrev pub Lacks : List ℕ → ℕ → Type 0
-Lacks ns n = (k : ℕ) → k < length ns → slice_index ns k ≢ n
+abbrev pub forgotten : ℕ → Copied → Copied
+forgotten n x = record { id = below n x.id; bytes = x.bytes }
 
-pub record First (ns : List ℕ) (n i : ℕ) : Type 0 where
-  pub within : i < length ns
-  pub is : slice_index_or ns i 0 ≡ n
-  pub first : (k : ℕ) → k < i → slice_index ns k ≢ n
+abbrev pub put : Option ℕ → List ℕ → List (List ℕ) → List (List ℕ)
+put None r bs = bs
+put (Some n) r bs = slice_set bs n r
 
-abbrev pub added : Copies → ℕ → List ℕ → Copies
-added c n r = record { ids = slice_set c.ids c.len n; bytes = paste c.bytes (c.len * 128) r (length r); len = c.len + 1 }
+abbrev pub over : List Copied → List (List ℕ) → List (List ℕ)
+over [] bs = bs
+over (x ∷ xs) bs = put x.id x.bytes (over xs bs)
 
-abbrev pub patched : Copies → ℕ → ℕ → List ℕ → Copies
-patched c i o bs = record { ids = c.ids; bytes = paste c.bytes (i * 128 + o) bs (length bs); len = c.len }
+abbrev pub laid : List Copied → Meaning → Meaning
+laid xs m = record { version = m.version; records = over xs m.records; growth = m.growth; left = m.left; posted = m.posted }
 
-pub record Remembers (c : Copies) (n : ℕ) (r : List ℕ) (c' : Copies) : Type 0 where
-  pub again : (i : ℕ) → First (numbers c) n i → c' ≡ c
-  pub anew : Lacks (numbers c) n → c.len < 16 → c' ≡ added c n r
-  pub full : Lacks (numbers c) n → 16 ≤ c.len → c' ≡ c
+abbrev pub added : List Copied → ℕ → List ℕ → List Copied
+added xs n r = xs ++ copy_of n r ∷ []
 
-pub record Sizes (c : Copies) : Type 0 where
-  pub ids : length c.ids ≡ 16
-  pub bytes : length c.bytes ≡ 2048
+abbrev pub patched : List Copied → ℕ → ℕ → List ℕ → List Copied
+patched xs i o bs = slice_set xs i (rewritten (slice_index_or xs i blank) o bs)
+
+pub record Remembers (xs : List Copied) (n : ℕ) (r : List ℕ) (ys : List Copied) : Type 0 where
+  pub again : IsSome (position (is_of n) xs) → ys ≡ xs
+  pub anew : position (is_of n) xs ≡ None → length xs < 16 → ys ≡ added xs n r
+  pub full : position (is_of n) xs ≡ None → 16 ≤ length xs → ys ≡ xs
+
+pub record Sized (xs : List Copied) : Type 0 where
+  pub sized : (k : ℕ) → k < length xs → length (slice_index_or xs k blank).bytes ≡ 128

@@ -1,116 +1,79 @@
-//! Copies of records, in a memory of their own.
-ghost use Rattle.std.specs.Prelude.{◌≡◌, ℕ, ◌+◌, ◌*◌, ◌<◌, ◌≤◌, length, if◌then◌else◌, MatchOption, nat_lt, slice_index};
-ghost use Rattle.stores.specs.Places.{record_at};
-ghost use Rattle.cache_store.specs.Copies.{held, numbers, Lacks, First, added, patched, no_number, Sizes};
+//! Copies of records.
+ghost use Rattle.std.specs.Prelude.{◌≡◌, ℕ, ◌+◌, ◌<◌, ◌≤◌, [], length, map, if◌then◌else◌, nat_lt, slice_index_or};
+ghost use Rattle.std.specs.List.{position};
+ghost use Rattle.cache_store.specs.Copies.{blank, Sized, is_of, forgotten, added, patched};
 
-use fields::consts::{DIR_ENTRY_LEN, NO_STREAM};
-use stores::bytes::{copy_in, copy_out};
+use crate::copied::Copied;
+use arrayvec::ArrayVec;
+use fields::consts::DIR_ENTRY_LEN;
 
 /// How many copies there can be.
 const MAX_COPIES: usize = 16;
 
 /// Copies of up to sixteen records, in the order in which they came.
-#[derive(Clone, Copy)]
+#[derive(Drop)]
 pub(crate) struct Copies {
-    /// The numbers of the records.
-    ids: [u32; MAX_COPIES],
-    /// The copies, end to end.
-    bytes: [u8; 2048],
-    len: usize,
+    kept: ArrayVec<Copied, MAX_COPIES>,
+    ghost sized: { Sized kept.items },
 }
 
 impl Copies {
     /// No copies yet.
     pub(crate) fn none() -> Copies
-        ensures { result.len ≡ 0 }
+        ensures { result.kept.items ≡ [] }
     {
         Copies {
-            ids: [NO_STREAM; MAX_COPIES],
-            bytes: [0; 2048],
-            len: 0,
+            kept: ArrayVec::new(),
         }
-    }
-
-    /// States how long the arrays are, for proofs to call; it does nothing.
-    pub(crate) fn keeps_sizes(&self)
-        ensures { Sizes self.now }
-    {
-        sizes_known(&self.ids, &self.bytes);
-    }
-
-    /// How many copies there are.
-    fn held(&self) -> usize
-        ensures { result ≡ held self.now }
-    {
-        self.len.min(MAX_COPIES)
     }
 
     /// The place of the first copy of a record.
     pub(crate) fn place_of(&self, id: u32) -> Option<usize>
-        ensures { MatchOption result (Lacks (numbers self.now) id) (λ i. First (numbers self.now) id i) }
+        ensures { result ≡ position (is_of id) self.now.kept.items }
     {
-        self.keeps_sizes();
-        let held = self.held();
-        for i in 0..held {
-            if self.ids[i] == id {
-                return Some(i);
-            }
-        }
-        None
+        self.kept.iter().position(|copied| copied.is_of(id))
     }
 
     /// Copies the copy at a place out.
     pub(crate) fn copy_record(&self, place: usize, into: &mut [u8; DIR_ENTRY_LEN])
-        requires { place < held self.now }
-        ensures { into.new ≡ record_at self.now.bytes (place * 128) }
+        requires { place < length self.now.kept.items }
+        ensures { into.new ≡ (slice_index_or self.now.kept.items place blank).bytes }
     {
-        copy_out(&self.bytes, place * DIR_ENTRY_LEN, into);
+        into.copy_from_slice(&self.kept[place].bytes);
     }
 
     /// Keeps a copy, where there is room for one more.
     pub(crate) fn keep(&mut self, id: u32, bytes: &[u8; DIR_ENTRY_LEN])
-        ensures { self.new ≡ (if nat_lt self.old.len 16 then added self.old id bytes.now else self.old) }
+        ensures { self.new.kept.items ≡ (if nat_lt (length self.old.kept.items) 16 then added self.old.kept.items id bytes.now else self.old.kept.items) }
     {
-        let len = self.len;
-        if len >= MAX_COPIES {
-            return;
+        if !self.kept.is_full() {
+            self.kept.push(Copied::of(id, bytes));
         }
-        self.ids[len] = id;
-        copy_in(&mut self.bytes, len * DIR_ENTRY_LEN, bytes);
-        self.len = len + 1;
     }
 
     /// Writes bytes into the copy at a place.
     pub(crate) fn patch(&mut self, place: usize, offset: u32, bytes: &[u8])
-        requires place_bound { place < held self.old }
+        requires place_bound { place < length self.old.kept.items }
         requires bytes_bound { offset + length bytes.now ≤ 128 }
-        ensures { self.new ≡ patched self.old place offset bytes.now }
+        ensures { self.new.kept.items ≡ patched self.old.kept.items place offset bytes.now }
     {
-        let at = place * DIR_ENTRY_LEN + offset as usize;
-        copy_in(&mut self.bytes, at, bytes);
+        let mut copied = self.kept[place];
+        copied.patch(offset, bytes);
+        self.kept[place] = copied;
     }
 
-    /// Forgets the copies of records that are not there: no record has the number that they get.
+    /// Forgets the copies of records that are not there. They keep their places.
     pub(crate) fn forget_beyond(&mut self, count: u32)
-        ensures len { self.new.len ≡ self.old.len }
-        ensures bytes { self.new.bytes ≡ self.old.bytes }
-        ensures ids { (k : ℕ) → k < 16 → slice_index self.new.ids k ≡ (if nat_lt (slice_index self.old.ids k) count then slice_index self.old.ids k else no_number) }
+        ensures { self.new.kept.items ≡ map (forgotten count) self.old.kept.items }
     {
-        for id in self.ids.iter_mut() {
-            *id = forgotten(*id, count);
-        }
+        forget_each(&mut self.kept, count);
     }
 }
 
-/// A number, or none where it is not below the count.
-fn forgotten(id: u32, count: u32) -> u32
-    ensures { result ≡ (if nat_lt id count then id else no_number) }
+fn forget_each(copies: &mut [Copied], count: u32)
+    ensures { copies.new ≡ map (forgotten count) copies.old }
 {
-    if id < count { id } else { NO_STREAM }
+    for copied in copies.iter_mut() {
+        copied.forget_beyond(count);
+    }
 }
-
-/// The length of an array is known where the array is lent, and not where a struct is that holds it.
-fn sizes_known(ids: &[u32; MAX_COPIES], bytes: &[u8; 2048])
-    ensures ids { length ids.now ≡ 16 }
-    ensures bytes { length bytes.now ≡ 2048 }
-{}

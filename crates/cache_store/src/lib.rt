@@ -1,19 +1,21 @@
 //! A store that keeps copies of records that were read, over any store.
 #![tactic(auto)]
 
-ghost use Rattle.std.specs.Prelude.{◌≡◌, length, MatchResult};
+ghost use Rattle.std.specs.Prelude.{◌≡◌, [], MatchResult};
 ghost use Rattle.stores.specs.declared.fault.Layer.TheVariants.{Cache};
 ghost use Rattle.stores.specs.Meaning.{with_bytes};
-ghost use Rattle.stores.specs.Answers.{Given, NotGiven, Inside, NotWritten};
+ghost use Rattle.stores.specs.Answers.{Reads, Writes};
 ghost use Rattle.cache_store.specs.Copies.{laid, Remembers};
+ghost use Rattle.cache_store.specs.Wholes.{whole_laid};
 
 use crate::copies::Copies;
 use fields::consts::DIR_ENTRY_LEN;
 use fields::version::Version;
 use stores::fault::{Fault, Layer};
-use stores::growth::Growth;
+use stores::span::Span;
 use stores::store::RecordStore;
 
+mod copied;
 mod copies;
 
 /// A store that writes through and keeps the first sixteen records that are read. It means the store below with those
@@ -27,7 +29,7 @@ impl<S> CacheStore<S> {
     /// A cache that keeps nothing yet.
     pub fn new(inner: S) -> CacheStore<S>
         ensures inner { result.inner ≡ inner }
-        ensures none { result.copies.len ≡ 0 }
+        ensures none { result.copies.kept.items ≡ [] }
     {
         CacheStore {
             inner,
@@ -47,13 +49,13 @@ impl<S> CacheStore<S> {
 impl<S: RecordStore> RecordStore for CacheStore<S> {
     type Slip = S::Slip;
 
-    ghost meaning = { λ s. laid s.copies (S.RecordStore.meaning s.inner) };
+    ghost meaning = { λ s. laid s.copies.kept.items (S.meaning s.inner) };
 
-    ghost beside = { λ s. S.RecordStore.beside s.inner };
+    ghost beside = { λ s. S.beside s.inner };
 
     ghost layer = { Cache };
 
-    ghost faults = { S.RecordStore.faults };
+    ghost faults = { S.faults };
 
     fn version(&self) -> Version {
         self.inner.version()
@@ -71,25 +73,16 @@ impl<S: RecordStore> RecordStore for CacheStore<S> {
         self.inner.growths_left()
     }
 
-    fn keeps_sizes(&self) {
-        self.copies.keeps_sizes();
-        self.inner.keeps_sizes();
-    }
-
     fn read(&mut self, number: u32, into: &mut [u8; DIR_ENTRY_LEN]) -> Result<(), Fault>
-        ensures beside { S.RecordStore.beside self.new.inner ≡ S.RecordStore.beside self.old.inner }
-        ensures kept { laid self.new.copies (S.RecordStore.meaning self.new.inner) ≡ laid self.old.copies (S.RecordStore.meaning self.old.inner) }
-        ensures answer { MatchResult result
-            (λ _. Given (laid self.old.copies (S.RecordStore.meaning self.old.inner)) number into.new)
-            (λ f. NotGiven Cache S.RecordStore.faults (laid self.old.copies (S.RecordStore.meaning self.old.inner)) number f) }
-        ensures below { S.RecordStore.meaning self.new.inner ≡ S.RecordStore.meaning self.old.inner }
+        ensures beside { S.beside self.new.inner ≡ S.beside self.old.inner }
+        ensures kept { laid self.new.copies.kept.items (S.meaning self.new.inner) ≡ laid self.old.copies.kept.items (S.meaning self.old.inner) }
+        ensures answer { Reads Cache S.faults (laid self.old.copies.kept.items (S.meaning self.old.inner)) number into.new result }
+        ensures below { S.meaning self.new.inner ≡ S.meaning self.old.inner }
         ensures remembers { MatchResult result
-            (λ _. Remembers self.old.copies number into.new self.new.copies)
+            (λ _. Remembers self.old.copies.kept.items number into.new self.new.copies.kept.items)
             (λ _. self.new.copies ≡ self.old.copies) }
     {
-        self.copies.keeps_sizes();
-        let count = self.inner.record_count();
-        Fault::unless_there(Layer::Cache, count, number, 0, DIR_ENTRY_LEN)?;
+        Span::all_of(number).within(self.inner.record_count(), Layer::Cache)?;
         if let Some(place) = self.copies.place_of(number) {
             self.copies.copy_record(place, into);
             return Ok(());
@@ -100,19 +93,19 @@ impl<S: RecordStore> RecordStore for CacheStore<S> {
     }
 
     fn write(&mut self, number: u32, offset: u32, bytes: &[u8]) -> Result<(), Fault>
-        ensures beside { S.RecordStore.beside self.new.inner ≡ S.RecordStore.beside self.old.inner }
-        ensures answer { MatchResult result
-            (λ _. Inside (laid self.old.copies (S.RecordStore.meaning self.old.inner)) number offset (length bytes.now)
-            × (laid self.new.copies (S.RecordStore.meaning self.new.inner) ≡ with_bytes (laid self.old.copies (S.RecordStore.meaning self.old.inner)) number offset bytes.now))
-            (λ f. NotWritten Cache S.RecordStore.faults (laid self.old.copies (S.RecordStore.meaning self.old.inner)) number offset (length bytes.now) f (laid self.new.copies (S.RecordStore.meaning self.new.inner))) }
+        ensures beside { S.beside self.new.inner ≡ S.beside self.old.inner }
+        ensures answer { Writes Cache S.faults (laid self.old.copies.kept.items (S.meaning self.old.inner))
+            number offset bytes.now result (laid self.new.copies.kept.items (S.meaning self.new.inner)) }
         ensures through { MatchResult result
-            (λ _. S.RecordStore.meaning self.new.inner ≡ with_bytes (S.RecordStore.meaning self.old.inner) number offset bytes.now)
+            (λ _. S.meaning self.new.inner ≡ with_bytes (S.meaning self.old.inner) number offset bytes.now)
             (λ _. self.new.copies ≡ self.old.copies) }
     {
-        self.copies.keeps_sizes();
-        self.inner.keeps_sizes();
-        let count = self.inner.record_count();
-        Fault::unless_there(Layer::Cache, count, number, offset, bytes.len())?;
+        let span = Span {
+            id: number,
+            offset,
+            len: bytes.len(),
+        };
+        span.within(self.inner.record_count(), Layer::Cache)?;
         self.inner.write(number, offset, bytes)?;
         if let Some(place) = self.copies.place_of(number) {
             self.copies.patch(place, offset, bytes);
@@ -120,16 +113,14 @@ impl<S: RecordStore> RecordStore for CacheStore<S> {
         Ok(())
     }
 
-    fn grow(&mut self) -> Result<Growth<S::Slip>, Fault> {
-        self.copies.keeps_sizes();
+    fn grow(&mut self) -> Result<Option<S::Slip>, Fault> {
         self.copies.forget_beyond(self.inner.record_count());
-        self.copies.keeps_sizes();
-        let grown = self.inner.grow();
-        self.inner.keeps_sizes();
-        grown
+        self.inner.grow()
     }
 
     fn post(&mut self, slip: S::Slip) -> Result<(), Fault> {
         self.inner.post(slip)
     }
+
+    ghost whole = { λ s. whole_laid s.copies.kept.items (S.meaning s.inner) s.copies.sized (S.whole s.inner) };
 }

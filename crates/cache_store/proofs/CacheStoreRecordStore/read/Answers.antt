@@ -1,79 +1,56 @@
-use Rattle.std.proofs.Common.{◌<◌, length, refl, ap, ◌∙◌, arith}
+use Rattle.std.proofs.Common.{◌<◌, length, sym, refl, ap, ◌∙◌, arith}
 use Rattle.std.proofs.lemmas.Result.{err_from_is_err_and}
 use Rattle.stores.specs.declared.fault.Layer.TheVariants.{Cache}
 use Rattle.stores.proofs.NotThere.{not_given}
 use Rattle.cache_store.specs.Copies.{laid}
-use Rattle.cache_store.proofs.Kept.{length-laid, within_held, read_hit, read_miss}
-use Rattle.cache_store.proofs.ThroughCopies.{not_given_through, remembered_same}
+use Rattle.cache_store.proofs.LaidOver.{lacking, found_first, get_or_hit, get_or_miss}
+use Rattle.cache_store.proofs.ThroughCopies.{length-laid, not_given_through, remembered_again, remembered_same}
 use Rattle.cache_store.proofs.CacheStoreRecordStore.read.Goals as goal
 
-pub returns-in_err-unless_there : goal.returns-in_err-unless_there
-returns-in_err-unless_there g c =
-    let s = c.args.self.now in
-    let m = g.S.RecordStore.meaning s.inner in
+pub returns-in_err-within-clause-answer : goal.returns-in_err-within-clause-answer
+returns-in_err-within-clause-answer g c =
+    let xs = c.args.self.now.copies.kept.items in
+    let m = g.S.RecordStore.meaning c.args.self.now.inner in
     let p = err_from_is_err_and c.from_residual.result c.from_residual.ensures.1 in
-    let b = c.in_err-unless_there.ensures in
-    record {
-      beside = refl;
-      kept = refl;
-      answer = rw (p.1, p.2) (not_given Cache g.S.RecordStore.faults (laid s.copies m) c.args.number _ b.0
-          (λ h. b.1 (omega (arith, h, c.record_count-count.ensures, length-laid s.copies m), omega arith)));
-      below = refl;
-      remembers = rw p.1 refl;
-    }
-
-pub copy_record-requires : goal.copy_record-requires
-copy_record-requires g c = within_held c.args.self.now.copies c.args.number c.in-Some.place c.keeps_sizes.ensures c.in-Some.ensures
+    rw (p.1, p.2) (not_given Cache g.S.RecordStore.faults (laid xs m) c.args.number c.all_of.result c.record_count.result _
+    c.all_of.ensures (c.record_count.ensures ∙ sym (length-laid xs m)) c.in_err-within.ensures)
 
 pub returns-in-Some : goal.returns-in-Some
 returns-in-Some g c =
-    let s = c.args.self.now in
-    let m = g.S.RecordStore.meaning s.inner in
-    let f = c.in-Some.ensures in
-    let there : c.args.number < length m.records = omega (arith, c.in_ok-unless_there.ensures.0, c.record_count-count.ensures) in
+    let xs = c.args.self.now.copies.kept.items in
+    let m = g.S.RecordStore.meaning c.args.self.now.inner in
+    let there : c.args.number < length m.records = omega (arith, simp c.all_of.ensures at c.in_ok-within.ensures.0, c.record_count.ensures) in
     record {
       beside = refl;
       kept = refl;
       answer = record {
-        there = omega (arith, length-laid s.copies m);
-        is = c.copy_record.ensures ∙ read_hit s.copies m c.args.number c.in-Some.place c.keeps_sizes.ensures f there;
+        there = omega (arith, length-laid xs m);
+        is = c.copy_record.ensures ∙ sym (get_or_hit xs m.records c.args.number c.in-Some.place (found_first xs c.args.number c.in-Some.place (sym c.in-Some.ensures)) there);
       };
       below = refl;
-      remembers = record {
-        again = λ i h. refl;
-        anew = λ lacks h. absurd (lacks c.in-Some.place f.within f.is);
-        full = λ lacks h. refl;
-      };
+      remembers = remembered_again xs c.args.number c.in-Some.place _ (sym c.in-Some.ensures);
     }
 
-pub returns-in_err-read : goal.returns-in_err-read
-returns-in_err-read g c =
-    let s = c.args.self.now in
-    let m = g.S.RecordStore.meaning s.inner in
+pub returns-in_err-read-clause-answer : goal.returns-in_err-read-clause-answer
+returns-in_err-read-clause-answer g c =
+    let m = g.S.RecordStore.meaning c.args.self.now.inner in
     let p = err_from_is_err_and c.from_residual-in_err-read.result c.from_residual-in_err-read.ensures.1 in
-    let b = c.in_err-read.ensures in
-    let there : c.args.number < length m.records = omega (arith, c.in_ok-unless_there.ensures.0, c.record_count-count.ensures) in
-    record {
-      beside = b.beside;
-      kept = ap (laid s.copies) b.kept;
-      answer = rw (p.1, p.2) (not_given_through g.S.RecordStore.layer Cache g.S.RecordStore.faults s.copies m c.args.number _ there b.answer);
-      below = b.kept;
-      remembers = rw p.1 refl;
-    }
+    let there : c.args.number < length m.records = omega (arith, simp c.all_of.ensures at c.in_ok-within.ensures.0, c.record_count.ensures) in
+    rw (p.1, p.2) (not_given_through g.S.RecordStore.layer Cache g.S.RecordStore.faults c.args.self.now.copies.kept.items m c.args.number _ there c.in_err-read.ensures.answer)
 
 pub returns : goal.returns
 returns g c =
-    let s = c.args.self.now in
-    let m = g.S.RecordStore.meaning s.inner in
+    let xs = c.args.self.now.copies.kept.items in
+    let m = g.S.RecordStore.meaning c.args.self.now.inner in
     let b = c.in_ok-read.ensures in
-    let k = remembered_same s.copies c.keep.new.self m c.args.number c.read.new.into c.keeps_sizes.ensures c.read.array_long b.answer.is
-    c.in_default.ensures c.keep.ensures in
+    let none = sym c.in_default.ensures in
+    let k = remembered_same xs c.keep.new.self.kept.items m c.args.number c.read.new.into b.answer.is none c.keep.ensures in
     record {
       beside = b.beside;
-      kept = ap (laid c.keep.new.self) b.kept ∙ k.0;
+      kept = ap (laid c.keep.new.self.kept.items) b.kept ∙ k.0;
       answer = record {
-        there = omega (arith, b.answer.there, length-laid s.copies m);
-        is = b.answer.is ∙ read_miss s.copies m c.args.number c.in_default.ensures;
+        there = omega (arith, b.answer.there, length-laid xs m);
+        is = b.answer.is ∙ sym (get_or_miss xs m.records c.args.number (lacking xs c.args.number none));
       };
       below = b.kept;
       remembers = k.1;

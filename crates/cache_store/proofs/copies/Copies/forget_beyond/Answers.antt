@@ -1,19 +1,19 @@
-use Rattle.std.proofs.Common.{◌≡◌, ℕ, ◌<◌, cond, ltb, length, refl, ap, ◌∙◌, arith, below_more}
-use Rattle.std.proofs.lemmas.List.{length-set, get_or-set_same, get_or-set_other}
-use Rattle.cache_store.specs.Copies.{no_number}
+use Rattle.std.proofs.Common.{◌≡◌, suc, List, [], ◌∷◌, length, map, get_or, refl, ap, ◌∙◌, arith, ℕ, zero}
+use Rattle.std.proofs.lemmas.List.{length-map}
+use Rattle.arrayvec.proofs.ArrayVecLemmas.{items-with_items}
+use Rattle.cache_store.specs.declared.copied.Copied.{Copied}
+use Rattle.cache_store.specs.Copies.{blank, forgotten}
 use Rattle.cache_store.proofs.copies.Copies.forget_beyond.Goals as goal
 
-pub loop-id-preserved : goal.loop-id-preserved
-loop-id-preserved c =
-    let xs = c.loop-id.id-items in
-    let i = c.loop-id.id-index in
-    let inv = c.loop-id.invariant in
-    let lt : i < length xs = omega (arith, inv.0) in (
-      length-set xs i c.forgotten.result ∙ inv.0,
-      below_more _ _ (λ k h. get_or-set_other xs i k c.forgotten.result 0 (λ (e : k ≡ i). omega arith) ∙ inv.1 k h)
-          (get_or-set_same xs i c.forgotten.result 0 lt ∙ c.forgotten.ensures ∙ ap (λ (n : ℕ). cond (ltb n c.args.count) n no_number) (inv.2 i (omega arith))),
-      λ k h. get_or-set_other xs i k c.forgotten.result 0 (λ (e : k ≡ i). omega arith) ∙ inv.2 k (omega arith),
-    )
+same_bytes : (n : ℕ) (xs : List Copied) (k : ℕ) → (get_or (map (forgotten n) xs) k blank).bytes ≡ (get_or xs k blank).bytes
+same_bytes n [] k = refl
+same_bytes n (x ∷ xs) zero = refl
+same_bytes n (x ∷ xs) (suc k) = same_bytes n xs k
 
-pub returns : goal.returns
-returns c = record { len = refl; bytes = refl; ids = λ k h. c.loop-id.invariant.1 k (omega arith) }
+pub invariant_of-self : goal.invariant_of-self
+invariant_of-self c =
+    let xs = c.args.self.now.kept.items in
+    let n = c.args.count in
+    let m : c.forget_each.new.copies ≡ map (forgotten n) xs = c.forget_each.ensures ∙ ap (map (forgotten n)) c.deref_mut.ensures.value in
+    let e = items-with_items c.args.self.now.kept c.forget_each.new.copies (ap length m ∙ length-map xs (forgotten n)) ∙ m in
+    record { sized = rw e (record { sized = λ k h. ap length (same_bytes n xs k) ∙ c.args.self.now.sized.sized k (omega (arith, h, length-map xs (forgotten n))) }) }
