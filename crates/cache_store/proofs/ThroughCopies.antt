@@ -1,7 +1,5 @@
 -- What the store below answers, as the store with copies laid over it answers it.
-use Rattle.std.proofs.Common.{◌≡◌, ℕ, ◌-◌, ◌/◌, ◌<◌, ◌≤◌, Bool, cond, ltb, List, [], length, map, get_or, set, replicate, Some, None, Option, Ok, Err, Result, sym, refl, ap, ◌∙◌, ⊎_elim, subst, arith, rules, le-ltb, lt-ltb}
-use Rattle.std.specs.Prelude.{IsSome}
-use Rattle.std.specs.List.{position}
+use Rattle.std.proofs.Common.{◌≡◌, ℕ, ◌-◌, ◌/◌, ◌<◌, ◌≤◌, Bool, cond, ltb, List, [], length, map, get_or, set, replicate, Some, None, Option, Ok, Err, Result, sym, ap, ◌∙◌, ⊎_elim, subst, arith, le-ltb, lt-ltb}
 use lib.Seq.{paste}
 use Rattle.std.proofs.lemmas.List.{length-set, get_or-set_same, get_or-set_other, set-get_or}
 use Rattle.std.proofs.lemmas.Bool.{cases_eq, cases_lt}
@@ -10,7 +8,7 @@ use Rattle.stores.specs.declared.fault.Layer.{Layer}
 use Rattle.stores.specs.Meaning.{Meaning, Whole, with_record, with_bytes, with_growth, with_count, freed}
 use Rattle.stores.specs.Answers.{NotGiven, Inside, NotWritten, Grows, Posts}
 use Rattle.cache_store.specs.declared.copied.Copied.{Copied}
-use Rattle.cache_store.specs.Copies.{Sized, blank, over, laid, is_of, forgotten, added, patched, Remembers}
+use Rattle.cache_store.specs.Copies.{Sized, blank, over, laid, forgotten, added, patched}
 use Rattle.cache_store.specs.Wholes.{length_over, sized_over}
 use Rattle.cache_store.proofs.LaidOver.{Lacks, First, over_push, over_miss, get_or_miss, over_free, get_or_hit, over_hit, over_grown, over_behind, over_forgotten}
 
@@ -101,28 +99,14 @@ pub grows_through : {T : Type 0} (p : Fault → Type 0) (n : ℕ) (xs : List Cop
 grows_through p n xs m m' r e h =
     subst (λ (x : Meaning). Grows p x r (laid (map (forgotten n) xs) m')) (forgotten_same n xs m e) (grown_through p n xs m m' r e h)
 
--- a record that has a copy is kept by it
-pub remembered_again : (xs : List Copied) (n i : ℕ) (r : List ℕ) → position (is_of n) xs ≡ Some i → Remembers xs n r xs
-remembered_again xs n i r e = record { again = λ _. refl; anew = λ none _. absurd cc; full = λ _ _. refl }
-
--- a record that is read below is remembered, and nothing else changes
-pub remembered_same : (xs ys : List Copied) (m : Meaning) (n : ℕ) (r : List ℕ) → r ≡ get_or m.records n [] → position (is_of n) xs ≡ None
-    → ys ≡ cond (ltb (length xs) 16) (added xs n r) xs → (laid ys m ≡ laid xs m) × Remembers xs n r ys
-remembered_same xs ys m n r e none k =
+-- a copy of what is read below changes nothing
+pub kept_same : (xs ys : List Copied) (m : Meaning) (n : ℕ) (r : List ℕ) → r ≡ get_or m.records n [] → ys ≡ cond (ltb (length xs) 16) (added xs n r) xs → laid ys m ≡ laid xs m
+kept_same xs ys m n r e k =
     ⊎_elim
     (λ (lt : length xs < 16).
     let a : ys ≡ added xs n r = k ∙ ap (λ (b : Bool). cond b (added xs n r) xs) (lt-ltb (length xs) 16 lt) in
-    let same : over (added xs n r) m.records ≡ over xs m.records
-    = over_push xs m.records n r ∙ ap (over xs) (ap (set m.records n) e ∙ set-get_or m.records n []) in (
-      ap (λ (zs : List Copied). laid zs m) a ∙ ap (with_records m) same,
-      record { again = λ some. absurd (lost none some); anew = λ _ _. a; full = λ _ ge. absurd (omega (arith, lt, ge)) },
-    ))
+    ap (λ (zs : List Copied). laid zs m) a
+    ∙ ap (with_records m) (over_push xs m.records n r ∙ ap (over xs) (ap (set m.records n) e ∙ set-get_or m.records n [])))
     (λ (ge : 16 ≤ length xs).
-    let a : ys ≡ xs = k ∙ ap (λ (b : Bool). cond b (added xs n r) xs) (le-ltb (length xs) 16 ge) in (
-      ap (λ (zs : List Copied). laid zs m) a,
-      record { again = λ _. a; anew = λ _ lt. absurd (omega (arith, lt, ge)); full = λ _ _. a },
-    ))
+    ap (λ (zs : List Copied). laid zs m) (k ∙ ap (λ (b : Bool). cond b (added xs n r) xs) (le-ltb (length xs) 16 ge)))
     (cases_lt (length xs) 16)
-  where
-    lost : {o : Option ℕ} → o ≡ None → IsSome o → ⊥
-    lost {o} e some = let s = subst IsSome e some in search rules
