@@ -1,24 +1,22 @@
 -- What a store of sectors means after a write, a growth and a post, and what lies beside it.
-use Rattle.std.proofs.Common.{◌≡◌, ℕ, ◌+◌, ◌-◌, ◌*◌, ◌/◌, ◌%◌, ◌^◌, ◌<◌, ◌≤◌, Bool, true, false, cond, ltb, leb, List, [], ◌++◌, length, get_or, take, drop, replicate, Some, Option, sym, refl, ap, ◌∙◌, div-add-mod', arith, lt-ltb, le-leb, leb-true}
+use Rattle.std.proofs.Common.{◌≡◌, ℕ, ◌+◌, ◌-◌, ◌*◌, ◌/◌, ◌%◌, ◌^◌, ◌<◌, ◌≤◌, true, false, cond, ltb, leb, List, [], ◌++◌, length, get_or, take, drop, replicate, Some, None, Option, Ok, Err, Result, sym, refl, ap, ◌∙◌, div-add-mod', arith, lt-ltb, le-leb, ⊎_elim}
 use lib.Seq.{paste}
+use Rattle.std.proofs.lemmas.Bool.{cases_lt, lt-leb}
 use Rattle.std.specs.Option.{option_map}
 use Rattle.fields.specs.declared.version.Version.{Version}
 use Rattle.fields.specs.declared.version.Version.TheVariants.{V3, V4}
 use Rattle.fields.specs.Versions.{sector_length, records_per_sector}
 use Rattle.records.specs.Bytes.{number, bytes_of, u32_at}
 use Rattle.records.proofs.NumbersBack.{number_bytes}
-use Rattle.stores.specs.Meaning.{Whole, with_bytes, with_growth, with_count, growths_held, freed}
-use Rattle.stores.specs.Places.{record_at, records_at, Fit, Apart}
+use Rattle.stores.specs.declared.unfit.Unfit.{Unfit}
+use Rattle.stores.specs.Meaning.{with_bytes, with_growth, with_count, growths_held, freed}
+use Rattle.stores.specs.Places.{record_at, records_at, Apart}
 use Rattle.stores.proofs.Pasted.{length_pasted, part_before, part_here}
-use Rattle.stores.proofs.Placed.{length-records_at, get_or-records_at, sized_records_at, written_records, outside_stands, records_behind}
-use Rattle.sector_store.specs.Sectors.{start, place, has_count, count_of, sectored, covered, sector_beside, filled, Laid}
-use Rattle.sector_store.proofs.ListedSectors.{sector_below, fit, apart, behind_header, covered_sector, in_its_sector}
+use Rattle.stores.proofs.Placed.{get_or-records_at, written_records, outside_stands, records_behind}
+use Rattle.sector_store.specs.Sectors.{start, place, count_place, count_at, sectored, covered, sector_beside, filled, Laid}
+use Rattle.sector_store.proofs.ListedSectors.{apart, behind_header, covered_sector, in_its_sector}
+use Rattle.sector_store.specs.Wholes.{sector_below, used_room, fit_used, length-sectored}
 use Rattle.sector_store.proofs.Filled.{length-filled, filled_records, outside-filled, part_before_filled}
-
--- what is in use can be
-used_room : (v : Version) (n : ℕ) (ss : List ℕ) (u r : ℕ) → Laid v n ss u r → u * records_per_sector v ≤ r * records_per_sector v
-used_room V3 n ss u r l = omega (arith, l.few)
-used_room V4 n ss u r l = omega (arith, l.few)
 
 pub room_numbered : (v : Version) (n : ℕ) (ss : List ℕ) (u r : ℕ) → Laid v n ss u r → r ≤ 0xffff_fffb
 room_numbered V3 n ss u r l = omega (arith, l.numbered)
@@ -27,30 +25,8 @@ room_numbered V4 n ss u r l = omega (arith, l.numbered)
 pub used_numbered : (v : Version) (n : ℕ) (ss : List ℕ) (u r : ℕ) → Laid v n ss u r → u * records_per_sector v ≤ 0xffff_fffb
 used_numbered v n ss u r l = omega (arith, used_room v n ss u r l, l.numbered)
 
-fit_used : (v : Version) (n : ℕ) (ss : List ℕ) (u r : ℕ) → Laid v n ss u r → Fit (place v ss) (u * records_per_sector v) n
-fit_used v n ss u r l k h = fit v n ss u r l k (omega (arith, used_room v n ss u r l))
-
 apart_used : (v : Version) (n : ℕ) (ss : List ℕ) (u r : ℕ) → Laid v n ss u r → Apart (place v ss) (u * records_per_sector v)
 apart_used v n ss u r l j k hj hk ne = apart v n ss u r l j k (omega (arith, used_room v n ss u r l)) (omega (arith, used_room v n ss u r l)) ne
-
-pub length-sectored : (v : Version) (bs ss : List ℕ) (u r : ℕ) → length (sectored v bs ss u r).records ≡ u * records_per_sector v
-length-sectored v bs ss u r = length-records_at bs (place v ss) (u * records_per_sector v)
-
-pub whole_sectored : (v : Version) (bs ss : List ℕ) (u r : ℕ) → Laid v (length bs) ss u r → Whole (sectored v bs ss u r)
-whole_sectored v bs ss u r l = record {
-  sized = sized_records_at bs (place v ss) (u * records_per_sector v) (fit_used v (length bs) ss u r l);
-  some = some v;
-  whole = ap (λ (k : ℕ). k % records_per_sector v) (length-sectored v bs ss u r) ∙ whole v u;
-  few = omega (arith, length-sectored v bs ss u r, used_room v (length bs) ss u r l, l.numbered);
-}
-  where
-    some : (v : Version) → 1 ≤ records_per_sector v
-    some V3 = omega arith
-    some V4 = omega arith
-
-    whole : (v : Version) (u : ℕ) → u * records_per_sector v % records_per_sector v ≡ 0
-    whole V3 u = omega arith
-    whole V4 u = omega arith
 
 pub get_or-sectored : (v : Version) (bs ss : List ℕ) (u r k : ℕ) → k < u * records_per_sector v → get_or (sectored v bs ss u r).records k [] ≡ record_at bs (place v ss k)
 get_or-sectored v bs ss u r k h = get_or-records_at bs (place v ss) (u * records_per_sector v) k h
@@ -62,9 +38,25 @@ place_fits v n ss u r k l h = fit_used v n ss u r l k h
 pub index_listed : (v : Version) (n : ℕ) (ss : List ℕ) (u r k : ℕ) → Laid v n ss u r → k < u * records_per_sector v → k / records_per_sector v < length ss
 index_listed v n ss u r k l h = omega (arith, sector_below v k u h, l.few, l.listed)
 
+-- a count is kept where the header keeps it
+abbrev count_of : Version → List ℕ → Option ℕ
+count_of v bs = count_at (count_place v (length bs)) bs
+
+pub count_within : (v : Version) (n p : ℕ) → count_place v n ≡ Ok (Some p) → (p ≡ 40) × (44 ≤ n)
+count_within V3 n p e = absurd cc
+count_within V4 n p e = ⊎_elim
+    (λ (lt : n < 44). absurd (let h = simp (lt-leb 44 n lt) at e in cc))
+    (λ (le : 44 ≤ n). let h = simp (le-leb 44 n le) at e in (cc, le))
+    (cases_lt n 44)
+
 -- the count stands where what is written lies behind it
 same_count : (v : Version) (bs bs' : List ℕ) → length bs' ≡ length bs → take 4 (drop 40 bs') ≡ take 4 (drop 40 bs) → count_of v bs' ≡ count_of v bs
-same_count v bs bs' l e = rw (l, e) refl
+same_count v bs bs' l e = rw l (same (count_place v (length bs)) refl)
+  where
+    same : (r : Result (Option ℕ) Unfit) → count_place v (length bs) ≡ r → count_at r bs' ≡ count_at r bs
+    same (Ok (Some p)) h = let q = (count_within v (length bs) p h).0 in rw q (ap (λ (xs : List ℕ). Some (number xs)) e)
+    same (Ok None) h = refl
+    same (Err u) h = refl
 
 pub sector_written : (v : Version) (bs ss xs : List ℕ) (u r j o : ℕ) → Laid v (length bs) ss u r → j < u * records_per_sector v → o + length xs ≤ 128
     → sectored v (paste bs (place v ss j + o) xs (length xs)) ss u r ≡ with_bytes (sectored v bs ss u r) j o xs
@@ -159,34 +151,33 @@ held v bs ss u r = ap (λ (k : ℕ). k / records_per_sector v) (length-sectored 
     back V3 u = omega arith
     back V4 u = omega arith
 
-pub sector_posted : (v : Version) (bs ss cs : List ℕ) (u r : ℕ) → Laid v (length bs) ss u r → has_count v (length bs) ≡ true → 44 ≤ length bs → u < 2 ^ 32 → cs ≡ bytes_of 4 u
-    → sectored v (paste bs 40 cs (length cs)) ss u r ≡ with_count (sectored v bs ss u r) (growths_held (sectored v bs ss u r))
-sector_posted v bs ss cs u r l hc hl hu e =
+pub sector_posted : (v : Version) (bs ss cs : List ℕ) (u r p : ℕ) → Laid v (length bs) ss u r → count_place v (length bs) ≡ Ok (Some p) → u < 2 ^ 32 → cs ≡ bytes_of 4 u
+    → sectored v (paste bs p cs (length cs)) ss u r ≡ with_count (sectored v bs ss u r) (growths_held (sectored v bs ss u r))
+sector_posted v bs ss cs u r p l hc hu e =
+    let w = count_within v (length bs) p hc in
     let lc : length cs ≡ 4 = ap length e in
-    let hp : 40 + length cs ≤ length bs = omega arith in
-    let ln = length_pasted bs cs 40 hp in
-    let rs = records_behind bs cs (place v ss) (u * records_per_sector v) 40 (fit_used v (length bs) ss u r l) hp (λ k hk. omega (arith, lc, behind_header v ss k)) in
-    let here : u32_at (paste bs 40 cs (length cs)) 40 ≡ u
-    = ap (λ (n : ℕ). number (take n (drop 40 (paste bs 40 cs (length cs))))) (sym lc) ∙ ap number (part_here bs cs 40 hp ∙ e) ∙ number_bytes 4 u hu in
-    let c : count_of v (paste bs 40 cs (length cs)) ≡ Some u = rw (ln, hc) (ap (λ (n : ℕ). Some n) here) in
+    let hp : p + length cs ≤ length bs = omega (arith, w.0, w.1) in
+    let ln = length_pasted bs cs p hp in
+    let rs = records_behind bs cs (place v ss) (u * records_per_sector v) p (fit_used v (length bs) ss u r l) hp (λ k hk. omega (arith, lc, w.0, behind_header v ss k)) in
+    let here : u32_at (paste bs p cs (length cs)) p ≡ u
+    = ap (λ (n : ℕ). number (take n (drop p (paste bs p cs (length cs))))) (sym lc) ∙ ap number (part_here bs cs p hp ∙ e) ∙ number_bytes 4 u hu in
+    let c : count_of v (paste bs p cs (length cs)) ≡ Some u = rw (ln, hc) (ap (λ (n : ℕ). Some n) here) in
     let c' : option_map (λ _. growths_held (sectored v bs ss u r)) (count_of v bs) ≡ Some u = rw hc (ap (λ (n : ℕ). Some n) (held v bs ss u r)) in
-    ap (λ (x : List (List ℕ)). record { version = v; records = x; growth = records_per_sector v; left = r - u; posted = count_of v (paste bs 40 cs (length cs)) }) rs
+    ap (λ (x : List (List ℕ)). record { version = v; records = x; growth = records_per_sector v; left = r - u; posted = count_of v (paste bs p cs (length cs)) }) rs
     ∙ ap (λ (x : Option ℕ). record { version = v; records = records_at bs (place v ss) (u * records_per_sector v); growth = records_per_sector v; left = r - u; posted = x }) (c ∙ sym c')
 
-pub sector_unposted : (v : Version) (bs ss : List ℕ) (u r n : ℕ) → has_count v (length bs) ≡ false → sectored v bs ss u r ≡ with_count (sectored v bs ss u r) n
+-- where none is kept, nothing is posted
+pub sector_unposted : (v : Version) (bs ss : List ℕ) (u r n : ℕ) → count_of v bs ≡ None → sectored v bs ss u r ≡ with_count (sectored v bs ss u r) n
 sector_unposted v bs ss u r n hc =
     let c : count_of v bs ≡ option_map (λ _. n) (count_of v bs) = rw hc refl in
     ap (λ (x : Option ℕ). record { version = v; records = records_at bs (place v ss) (u * records_per_sector v); growth = records_per_sector v; left = r - u; posted = x }) c
 
-pub beside_posted : (n : ℕ) (v : Version) (bs ss cs : List ℕ) → has_count v (length bs) ≡ true → 44 ≤ length bs → length cs ≡ 4
-    → sector_beside n v (paste bs 40 cs (length cs)) ss ≡ sector_beside n v bs ss
-beside_posted n V3 bs ss cs hc hl lc = absurd (let one : ◌≡◌ {A = ℕ} 0 1 = cc in omega arith)
-beside_posted n V4 bs ss cs hc hl lc =
-    beside_pasted n V4 bs ss cs 40 (omega arith) (λ i lo hi. counted i lo (omega arith))
+pub beside_posted : (n : ℕ) (v : Version) (bs ss cs : List ℕ) (p : ℕ) → count_place v (length bs) ≡ Ok (Some p) → length cs ≡ 4
+    → sector_beside n v (paste bs p cs (length cs)) ss ≡ sector_beside n v bs ss
+beside_posted n V3 bs ss cs p hc lc = absurd cc
+beside_posted n V4 bs ss cs p hc lc =
+    let w = count_within V4 (length bs) p hc in
+    beside_pasted n V4 bs ss cs p (omega (arith, w.0, w.1)) (λ i lo hi. counted i (omega (arith, w.0)) (omega (arith, w.0)))
   where
     counted : (i : ℕ) → 40 ≤ i → i < 44 → covered V4 ss i ≡ true
     counted i lo hi = let e : cond (leb 40 i) (ltb i 44) false ≡ true = rw (le-leb 40 i lo, lt-ltb i 44 hi) refl in rw e refl
-
-pub count_within : (v : Version) (n : ℕ) → has_count v n ≡ true → 44 ≤ n
-count_within V3 n e = absurd (let z : ◌≡◌ {A = Bool} false true = e in let one : ◌≡◌ {A = ℕ} 0 1 = cc in omega arith)
-count_within V4 n e = leb-true 44 n e

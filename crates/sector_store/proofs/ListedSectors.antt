@@ -1,40 +1,13 @@
 -- Where the records of listed sectors lie: in the bytes, apart from each other, and in listed sectors.
-use Rattle.std.proofs.Common.{◌≡◌, ℕ, zero, suc, ◌+◌, ◌*◌, ◌/◌, ◌%◌, ◌<◌, ◌≤◌, Bool, true, false, cond, ◌⊎◌, List, [], ◌∷◌, length, get_or, sym, refl, ap, ◌∙◌, inl, inr, ⊎_elim, mod-lt, div-add-mod', arith, lt-ltb, le-leb}
-use mathlib.Core.Logic.{∥∥₁_elim}
-use native.Mathlib.Bridge.{le_prop}
+use Rattle.std.proofs.Common.{◌≡◌, ℕ, zero, suc, ◌+◌, ◌*◌, ◌/◌, ◌%◌, ◌<◌, ◌≤◌, Bool, true, false, cond, ◌⊎◌, List, [], ◌∷◌, length, get_or, sym, refl, ap, ◌∙◌, inl, inr, ⊎_elim, arith, lt-ltb, le-leb}
 use Rattle.std.proofs.lemmas.Bool.{cases_eq, cases_lt}
 use Rattle.fields.specs.declared.version.Version.{Version}
 use Rattle.fields.specs.declared.version.Version.TheVariants.{V3, V4}
 use Rattle.fields.specs.Versions.{sector_length, records_per_sector}
-use Rattle.stores.specs.Places.{Fit, Apart}
+use Rattle.stores.specs.Places.{Apart}
 use Rattle.sector_store.specs.Sectors.{start, place, in_sector, in_sectors, in_count, covered, room_for, Laid}
 use Rattle.sector_store.specs.Claims.{Surveyed}
-
-absurd_prop : (p q : ⊥) → p ≡ q
-absurd_prop p q = absurd p
-
--- two proofs that a store is laid out are equal, so what a ghost field says can be used
-pub unwrap : (v : Version) (n : ℕ) (ss : List ℕ) (u r : ℕ) → ∥ Laid v n ss u r ∥₁ → Laid v n ss u r
-unwrap v n ss u r h = ∥∥₁_elim h (λ l m i. record {
-  few = le_prop l.few m.few i;
-  listed = le_prop l.listed m.listed i;
-  numbered = le_prop l.numbered m.numbered i;
-  inside = λ k lt. le_prop (l.inside k lt) (m.inside k lt) i;
-  apart = λ j k a b e. absurd_prop (l.apart j k a b e) (m.apart j k a b e) i;
-}) (λ l. l)
-
--- a number in sectors: the sector's place in the list, and the place in the sector
-pub split : (v : Version) (k : ℕ) → (k ≡ k / records_per_sector v * records_per_sector v + k % records_per_sector v) × (k % records_per_sector v < records_per_sector v)
-split V3 k = (omega (arith, div-add-mod' k 4), mod-lt k (omega arith))
-split V4 k = (omega (arith, div-add-mod' k 32), mod-lt k (omega arith))
-
-pub sector_below : (v : Version) (k r : ℕ) → k < r * records_per_sector v → k / records_per_sector v < r
-sector_below V3 k r h = omega (arith, split V3 k)
-sector_below V4 k r h = omega (arith, split V4 k)
-
-pub fit : (v : Version) (n : ℕ) (ss : List ℕ) (u r : ℕ) → Laid v n ss u r → Fit (place v ss) (r * records_per_sector v) n
-fit V3 n ss u r l k h = omega (arith, split V3 k, l.inside (k / 4) (sector_below V3 k r h))
-fit V4 n ss u r l k h = omega (arith, split V4 k, l.inside (k / 32) (sector_below V4 k r h))
+use Rattle.sector_store.specs.Wholes.{split, sector_below}
 
 -- places in one sector or in two
 near : (v : Version) (a b i j : ℕ) → i < records_per_sector v → j < records_per_sector v → ((a ≡ b → ⊥) ⊎ (i ≡ j → ⊥))

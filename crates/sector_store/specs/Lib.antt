@@ -1,2 +1,3 @@
 pub mod Sectors
 pub mod Claims
+pub mod Wholes

@@ -4,20 +4,21 @@
 --   place v ss k             where the record k begins: in the sector k / (records per sector) of the list
 --   Inside v n ss i          the sector at place i of the list lies in n bytes
 --   room_for v ss            how many of the listed sectors can be used: every record in them has a number
---   has_count v n            whether a file of n bytes keeps a count: version 4, if its header has the place for it
---   count_fits v n           whether the header has the place for a count, if the version wants one
---   count_of v bs            the count, where one is kept
+--   count_place v n          where a file of n bytes keeps a count: in version 4, and refused if its header is shorter
+--   count_at r bs            the count, where one is kept
 --   sectored v bs ss u r     what the store means of which u sectors are in use and r can be
 --   covered v ss i           the place i lies in a listed sector, or in the count
 --   sector_beside l v bs ss  what lies beside it: the lender, the list, and the bytes in no listed sector and not in the count
 --   Laid v n ss u r          what holds of such a store in n bytes: no sector in use stands twice or outside the bytes
 --   filled bs a n            bs with n freed records end to end from the place a on
-use Rattle.std.specs.Prelude.{ℕ, zero, suc, ◌+◌, ◌-◌, ◌*◌, ◌/◌, ◌%◌, ◌<◌, ◌≤◌, min, Bool, true, false, cond, List, [], ◌∷◌, length, Some, None, Option, ◌≢◌, nat_le, nat_lt, slice_index}
+use Rattle.std.specs.Prelude.{ℕ, zero, suc, ◌+◌, ◌-◌, ◌*◌, ◌/◌, ◌%◌, ◌<◌, ◌≤◌, min, Bool, true, false, cond, List, [], ◌∷◌, length, Some, None, Option, Ok, Err, Result, if◌then◌else◌, ◌≢◌, nat_le, nat_lt, slice_index}
 use Rattle.std.proofs.Math.Seq.{paste}
 use Rattle.fields.specs.declared.version.Version.{Version}
 use Rattle.fields.specs.declared.version.Version.TheVariants.{V3, V4}
 use Rattle.fields.specs.Versions.{sector_length, records_per_sector}
 use Rattle.records.specs.Bytes.{u32_at}
+use Rattle.stores.specs.declared.unfit.Unfit.{Unfit}
+use Rattle.stores.specs.declared.unfit.Unfit.TheVariants.{BadCount}
 use Rattle.stores.specs.Meaning.{Meaning, Beside, max_records, freed}
 use Rattle.stores.specs.Places.{records_at, outside}
 
@@ -33,19 +34,17 @@ Inside v n ss i = (slice_index ss i + 2) * sector_length v ≤ n
 abbrev pub room_for : Version → List ℕ → ℕ
 room_for v ss = min (length ss) (max_records / records_per_sector v)
 
-abbrev pub has_count : Version → ℕ → Bool
-has_count V3 n = false
-has_count V4 n = nat_le 44 n
+abbrev pub count_place : Version → ℕ → Result (Option ℕ) Unfit
+count_place V3 n = Ok None
+count_place V4 n = (if nat_le 44 n then Ok (Some 40) else Err BadCount)
 
-abbrev pub count_fits : Version → ℕ → Bool
-count_fits V3 n = true
-count_fits V4 n = nat_le 44 n
-
-abbrev pub count_of : Version → List ℕ → Option ℕ
-count_of v bs = cond (has_count v (length bs)) (Some (u32_at bs 40)) None
+abbrev pub count_at : Result (Option ℕ) Unfit → List ℕ → Option ℕ
+count_at (Ok (Some p)) bs = Some (u32_at bs p)
+count_at (Ok None) bs = None
+count_at (Err e) bs = None
 
 abbrev pub sectored : Version → List ℕ → List ℕ → ℕ → ℕ → Meaning
-sectored v bs ss u r = record { version = v; records = records_at bs (place v ss) (u * records_per_sector v); growth = records_per_sector v; left = r - u; posted = count_of v bs }
+sectored v bs ss u r = record { version = v; records = records_at bs (place v ss) (u * records_per_sector v); growth = records_per_sector v; left = r - u; posted = count_at (count_place v (length bs)) bs }
 
 abbrev pub in_sector : ℕ → ℕ → ℕ → Bool
 in_sector n s i = cond (nat_le ((s + 1) * n) i) (nat_lt i ((s + 2) * n)) false

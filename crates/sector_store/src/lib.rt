@@ -1,12 +1,12 @@
 //! A store of records in the sectors of a compound file.
 //!
-//! `file` has the lent bytes and the lent list of sectors, `claim` how a store is made of them, and `store` its calls.
+//! `file` says where in the lent bytes the records of the listed sectors stand, `claim` how a store is made of them, and
+//! `store` has its calls.
 #![tactic(auto)]
 
 ghost use Rattle.std.specs.Prelude.{length};
 ghost use Rattle.sector_store.specs.Sectors.{Laid};
 
-use crate::file::File;
 use fields::version::Version;
 
 pub mod claim;
@@ -18,14 +18,16 @@ pub mod store;
 ///
 /// A store that is new holds nothing; `claim` looks the list over and takes its sectors up.
 pub struct SectorStore<'a> {
-    file: File<'a>,
     version: Version,
+    bytes: &'a mut [u8],
+    sectors: &'a [u32],
     /// How many sectors are in use.
     used: u32,
     /// How many can be.
     room: u32,
-    ghost laid: { ∥ Laid version (length file.bytes.now) file.sectors.now used room ∥₁ },
+    ghost laid: { Laid version (length bytes.now) sectors.now used room },
 }
 
+// A type of its own: its field is private to the store, so that nothing else makes one.
 /// The slip of a growth.
 pub struct SectorSlip(());

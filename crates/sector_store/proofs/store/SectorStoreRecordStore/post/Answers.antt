@@ -1,28 +1,24 @@
-use Rattle.std.proofs.Common.{◌≡◌, true, length, sym, ap, ◌∙◌, arith, rules}
+use Rattle.std.proofs.Common.{◌≡◌, ℕ, List, length, Some, Ok, ap, ◌∙◌, arith, rules}
+use lib.Seq.{paste}
 use Rattle.records.specs.Bytes.{bytes_of}
-use Rattle.sector_store.specs.Sectors.{has_count}
-use Rattle.sector_store.proofs.Held.{laid_out}
-use Rattle.sector_store.proofs.Changed.{room_numbered, count_within}
-use Rattle.sector_store.proofs.Calls.{posted, wrote_laid}
+use Rattle.sector_store.specs.Sectors.{count_place, sectored, sector_beside}
+use Rattle.sector_store.proofs.Changed.{room_numbered, count_within, sector_posted, beside_posted}
 use Rattle.sector_store.proofs.store.SectorStoreRecordStore.post.Goals as goal
 
-pub invariant_of-self : goal.invariant_of-self
-invariant_of-self c =
+pub returns-in-Ok-Some : goal.returns-in-Ok-Some
+returns-in-Ok-Some c =
     let s = c.args.self.now in
-    let hc : has_count s.version (length s.file.bytes.now) ≡ true = sym c.keeps_count.ensures ∙ c.if-keeps_count.true in
-    let lc : length c.to_le_bytes.result ≡ 4 = ap length c.to_le_bytes.ensures in
+    let bs = s.bytes.now in
+    let p = c.in-Ok-Some.place in
+    let hc : count_place s.version (length bs) ≡ Ok (Some p) = search rules in
+    let b : c.to_le_bytes-count.result ≡ bytes_of 4 s.used = search rules in
+    let lc : length c.to_le_bytes-count.result ≡ 4 = ap length b in
+    let w = count_within s.version (length bs) p hc in
+    let e : c.copy_in.new.bytes ≡ paste bs p c.to_le_bytes-count.result (length c.to_le_bytes-count.result) = c.copy_in.ensures.copied (omega (arith, lc, w.0, w.1)) in
     record {
-      laid = ∣ wrote_laid s.version s.file.bytes.now c.put.new.self.bytes.now s.file.sectors.now c.put.new.self.sectors.now s.used s.room
-          s.file.bytes.ghost_name c.put.new.self.bytes.ghost_name (laid_out s) c.put.ensures.lender c.put.ensures.list
-          c.to_le_bytes.result 40 (omega (arith, lc, count_within s.version (length s.file.bytes.now) hc)) c.put.ensures.bytes ∣₁;
+      beside = ap (λ (ys : List ℕ). sector_beside s.bytes.ghost_name s.version ys s.sectors.now) e
+          ∙ beside_posted s.bytes.ghost_name s.version bs s.sectors.now c.to_le_bytes-count.result p hc lc;
+      answer = ap (λ (ys : List ℕ). sectored s.version ys s.sectors.now s.used s.room) e
+          ∙ sector_posted s.version bs s.sectors.now c.to_le_bytes-count.result s.used s.room p s.laid hc
+          (omega (arith, room_numbered s.version _ _ s.used s.room s.laid, s.laid.few)) b;
     }
-
-pub returns-then-keeps_count : goal.returns-then-keeps_count
-returns-then-keeps_count c =
-    let s = c.args.self.now in
-    let hc : has_count s.version (length s.file.bytes.now) ≡ true = sym c.keeps_count.ensures ∙ c.if-keeps_count.true in
-    let b : c.to_le_bytes.result ≡ bytes_of 4 s.used = search rules in
-    let p = posted s.version s.file.bytes.now c.put.new.self.bytes.now s.file.sectors.now c.put.new.self.sectors.now s.used s.room
-    s.file.bytes.ghost_name c.put.new.self.bytes.ghost_name (laid_out s) c.put.ensures.lender c.put.ensures.list
-    c.to_le_bytes.result hc (count_within s.version (length s.file.bytes.now) hc) (omega (arith, room_numbered s.version _ _ _ _ (laid_out s), (laid_out s).few)) b c.put.ensures.bytes in
-    record { beside = p.0; answer = p.1 }

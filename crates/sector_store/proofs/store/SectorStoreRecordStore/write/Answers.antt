@@ -1,47 +1,43 @@
-use Rattle.std.proofs.Common.{ℕ, ◌+◌, ◌*◌, ◌<◌, length, ap, ◌∙◌, arith}
+use Rattle.std.proofs.Common.{◌≡◌, ℕ, ◌+◌, ◌*◌, ◌<◌, List, length, ap, ◌∙◌, arith}
 use lib.Seq.{paste}
 use Rattle.fields.specs.Versions.{records_per_sector}
-use Rattle.sector_store.proofs.Held.{laid_out}
-use Rattle.sector_store.proofs.Changed.{length-sectored, place_fits, index_listed}
-use Rattle.sector_store.proofs.Calls.{wrote, wrote_laid}
+use Rattle.sector_store.specs.Sectors.{place, sectored, sector_beside}
+use Rattle.sector_store.specs.Wholes.{length-sectored}
+use Rattle.sector_store.proofs.Changed.{place_fits, index_listed, sector_written, beside_written}
 use Rattle.sector_store.proofs.store.SectorStoreRecordStore.write.Goals as goal
 
-pub place-at-requires : goal.place-at-requires
-place-at-requires c =
+pub place-requires : goal.place-requires
+place-requires c =
     let s = c.args.self.now in
     let lt : c.args.number < s.used * records_per_sector s.version
-    = omega (arith, c.in_ok-unless_there.ensures.0, c.record_count-count.ensures, length-sectored s.version s.file.bytes.now s.file.sectors.now s.used s.room) in
-    index_listed s.version _ _ s.used s.room c.args.number (laid_out s) lt
+    = omega (arith, c.in_ok-within.ensures.0, c.record_count.ensures, length-sectored s.version s.bytes.now s.sectors.now s.used s.room) in
+    index_listed s.version _ _ s.used s.room c.args.number s.laid lt
 
-pub put-requires : goal.put-requires
-put-requires c =
+pub overflow_add-at : goal.overflow_add-at
+overflow_add-at c =
     let s = c.args.self.now in
-    let there = c.in_ok-unless_there.ensures in
+    let there = c.in_ok-within.ensures in
     let lt : c.args.number < s.used * records_per_sector s.version
-    = omega (arith, there.0, c.record_count-count.ensures, length-sectored s.version s.file.bytes.now s.file.sectors.now s.used s.room) in
-    omega (arith, there.1, c.place-at.ensures, place_fits s.version _ _ s.used s.room c.args.number (laid_out s) lt)
-
-pub invariant_of-self : goal.invariant_of-self
-invariant_of-self c =
-    let s = c.args.self.now in
-    let there = c.in_ok-unless_there.ensures in
-    let lt : c.args.number < s.used * records_per_sector s.version
-    = omega (arith, there.0, c.record_count-count.ensures, length-sectored s.version s.file.bytes.now s.file.sectors.now s.used s.room) in
-    let f = place_fits s.version _ _ s.used s.room c.args.number (laid_out s) lt in
-    record {
-      laid = ∣ wrote_laid s.version s.file.bytes.now c.put.new.self.bytes.now s.file.sectors.now c.put.new.self.sectors.now s.used s.room
-          s.file.bytes.ghost_name c.put.new.self.bytes.ghost_name (laid_out s) c.put.ensures.lender c.put.ensures.list
-          c.args.bytes.now (c.place-at.result + c.args.offset) (omega (arith, there.1, c.place-at.ensures, f)) c.put.ensures.bytes ∣₁;
-    }
+    = omega (arith, there.0, c.record_count.ensures, length-sectored s.version s.bytes.now s.sectors.now s.used s.room) in
+    omega (arith, there.1, c.place.ensures, place_fits s.version _ _ s.used s.room c.args.number s.laid lt)
 
 pub returns : goal.returns
 returns c =
     let s = c.args.self.now in
-    let there = c.in_ok-unless_there.ensures in
-    let l = length-sectored s.version s.file.bytes.now s.file.sectors.now s.used s.room in
-    let lt : c.args.number < s.used * records_per_sector s.version = omega (arith, there.0, c.record_count-count.ensures, l) in
-    let w = wrote s.version s.file.bytes.now c.put.new.self.bytes.now s.file.sectors.now c.put.new.self.sectors.now s.used s.room
-    s.file.bytes.ghost_name c.put.new.self.bytes.ghost_name (laid_out s) c.put.ensures.lender c.put.ensures.list
-    c.args.bytes.now c.args.number c.args.offset lt there.1
-    (c.put.ensures.bytes ∙ ap (λ (p : ℕ). paste s.file.bytes.now (p + c.args.offset) c.args.bytes.now (length c.args.bytes.now)) c.place-at.ensures) in
-    record { beside = w.0; answer = ((omega (arith, lt, l), there.1), w.1) }
+    let bs = s.bytes.now in
+    let xs = c.args.bytes.now in
+    let there = c.in_ok-within.ensures in
+    let l = length-sectored s.version bs s.sectors.now s.used s.room in
+    let lt : c.args.number < s.used * records_per_sector s.version = omega (arith, there.0, c.record_count.ensures, l) in
+    let f = place_fits s.version _ _ s.used s.room c.args.number s.laid lt in
+    let e : c.copy_in.new.bytes ≡ paste bs (place s.version s.sectors.now c.args.number + c.args.offset) xs (length xs)
+    = c.copy_in.ensures.copied (omega (arith, there.1, c.place.ensures, f)) ∙ ap (λ (p : ℕ). paste bs (p + c.args.offset) xs (length xs)) c.place.ensures in
+    record {
+      beside = ap (λ (ys : List ℕ). sector_beside s.bytes.ghost_name s.version ys s.sectors.now) e
+          ∙ beside_written s.bytes.ghost_name s.version bs s.sectors.now xs s.used s.room c.args.number c.args.offset s.laid lt there.1;
+      answer = (
+        (omega (arith, lt, l), there.1),
+        ap (λ (ys : List ℕ). sectored s.version ys s.sectors.now s.used s.room) e
+            ∙ sector_written s.version bs s.sectors.now xs s.used s.room c.args.number c.args.offset s.laid lt there.1,
+      );
+    }
