@@ -32,6 +32,7 @@ impl<'a> SectorStore<'a> {
 }
 
 impl SectorStore<'_> {
+    // A step of its own: a store that is refused stays the caller's, who can claim again with more cells.
     /// Takes the listed sectors up, the first `used` of them as they stand. The cells are lent to find a sector that is
     /// listed twice, and empty afterwards. A refused claim leaves the store as it was.
     pub fn claim(&mut self, cells: &mut [Cell<SectorNumber>], used: u32) -> Result<(), Unfit>

@@ -16,6 +16,7 @@ pub enum Layer {
 }
 
 impl Layer {
+    // By a number, since the C interface tells a fault by numbers.
     /// The layer's number.
     pub fn number(self) -> u32
         ensures { result ≡ layer_number self }
@@ -39,6 +40,7 @@ pub enum Cause {
 }
 
 impl Cause {
+    // By a number, since the C interface tells a fault by numbers.
     /// The cause's number.
     pub fn number(self) -> u32
         ensures { result ≡ cause_number self }
@@ -50,6 +52,7 @@ impl Cause {
     }
 }
 
+// A number and an offset in any case, since the C interface tells each fault by four numbers.
 /// What a store call failed with. A growth and a post have no record of their own: their number and offset are 0.
 #[derive(Debug, Clone, Copy, PartialEq, Eq)]
 pub struct Fault {
