@@ -1,4 +1,5 @@
 //! What the port answers for a record, as the list has it.
+use fields::consts::DIR_ENTRY_LEN;
 use fields::malformed::Malformed;
 use records::direntry::DirEntry;
 use std::fmt;
@@ -6,7 +7,7 @@ use std::fmt;
 /// What reading a record gave.
 #[derive(Drop)]
 pub struct Answer<'a> {
-    pub record: &'a [u8; 128],
+    pub record: &'a [u8; DIR_ENTRY_LEN],
     pub read: Result<DirEntry, Malformed>,
 }
 
@@ -57,13 +58,13 @@ fn show_numbers<W: fmt::Write>(entry: &DirEntry, f: &mut fmt::Formatter<W>) -> f
 }
 
 fn show_changes<W: fmt::Write>(
-    record: &[u8; 128],
-    written: &[u8; 128],
+    record: &[u8; DIR_ENTRY_LEN],
+    written: &[u8; DIR_ENTRY_LEN],
     f: &mut fmt::Formatter<W>,
 ) -> fmt::Result {
-    for i in 0..128 {
-        let byte = written[i];
-        if byte != record[i] {
+    for (i, (byte, before)) in written.iter().zip(record).enumerate() {
+        let byte = *byte;
+        if byte != *before {
             write!(f, "{i:02x}{byte:02x}")?;
         }
     }

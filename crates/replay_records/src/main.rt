@@ -3,24 +3,14 @@
 
 mod answer;
 mod case;
+mod tally;
 
 use case::{agrees, agrees_on_every};
-
-/// How many records were replayed, of how many bytes every change, and for how many lines an answer differs.
-#[derive(Drop)]
-struct Tally {
-    records: u32,
-    bytes: u32,
-    differing: u32,
-}
+use tally::Tally;
 
 fn replay(rt: &HostRuntime) -> anyhow::Result<Tally> {
     let heap = rt.alloc();
-    let mut tally = Tally {
-        records: 0,
-        bytes: 0,
-        differing: 0,
-    };
+    let mut tally = Tally::default();
     for line in rt.lines(heap) {
         let line = line?;
         let agreed = match line.as_str().strip_prefix("every ") {
@@ -42,14 +32,7 @@ fn replay(rt: &HostRuntime) -> anyhow::Result<Tally> {
 }
 
 fn run(rt: &HostRuntime) -> anyhow::Result<()> {
-    let Tally {
-        records,
-        bytes,
-        differing,
-    } = replay(rt)?;
-    println!(rt;
-        "replayed, in both versions and both modes: {records} records, and every change of {bytes} bytes; {differing} differ"
-    )?;
+    rt.println(replay(rt)?)?;
     Ok(())
 }
 
