@@ -2,28 +2,46 @@
 #![tactic(auto)]
 
 mod case;
+mod line;
 mod tally;
 
-use case::{Case, Foldings};
+use case::Case;
+use line::{Line, Under};
+use names::folding::{AsciiFolding, TableFolding};
 use tally::Tally;
+
+/// Whether the port answers a case as it was recorded, under the folding that was chosen last.
+fn agrees(case: &Case, under: Under, pairs: &[(u32, u32)]) -> bool {
+    match under {
+        Under::Ascii => case.agrees(&AsciiFolding),
+        Under::Table => case.agrees(&TableFolding::new(pairs)),
+    }
+}
 
 fn replay(rt: &HostRuntime) -> anyhow::Result<Tally> {
     let heap = rt.alloc();
-    let mut foldings = Foldings::new(heap);
-    let mut tally = Tally::new();
-    for line in rt.lines(heap) {
-        let line = line?;
-        let case = Case::read(heap, line.as_str())?;
-        if !foldings.agrees(&mut tally, case)? {
-            println!(rt; "differs: {line}")?;
+    let mut pairs = Vec::new(heap);
+    let mut under = Under::Ascii;
+    let mut tally = Tally::default();
+    for text in rt.lines(heap) {
+        let text = text?;
+        match Line::read(heap, text.as_str())? {
+            Line::Pair(from, to) => pairs.push((from, to))?,
+            Line::Under(folding) => under = folding,
+            Line::Case(case) => {
+                let agreed = agrees(&case, under, pairs.as_slice());
+                tally.count(&case, agreed);
+                if !agreed {
+                    println!(rt; "differs: {text}")?;
+                }
+            }
         }
     }
     Ok(tally)
 }
 
 fn run(rt: &HostRuntime) -> anyhow::Result<()> {
-    let tally = replay(rt)?;
-    println!(rt; "{tally}")?;
+    rt.println(replay(rt)?)?;
     Ok(())
 }
 

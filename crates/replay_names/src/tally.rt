@@ -1,7 +1,8 @@
 //! How many cases were replayed, and how many differ.
+use crate::case::Case;
 use std::fmt;
 
-#[derive(Drop)]
+#[derive(Default, Drop)]
 pub struct Tally {
     compared: u32,
     keyed: u32,
@@ -10,35 +11,16 @@ pub struct Tally {
 }
 
 impl Tally {
-    pub fn new() -> Tally {
-        Tally {
-            compared: 0,
-            keyed: 0,
-            chained: 0,
-            differing: 0,
-        }
-    }
-
-    pub fn compared(&mut self, agrees: bool) -> bool {
-        self.compared = self.compared.saturating_add(1);
-        self.count(agrees)
-    }
-
-    pub fn keyed(&mut self, agrees: bool) -> bool {
-        self.keyed = self.keyed.saturating_add(1);
-        self.count(agrees)
-    }
-
-    pub fn chained(&mut self, agrees: bool) -> bool {
-        self.chained = self.chained.saturating_add(1);
-        self.count(agrees)
-    }
-
-    fn count(&mut self, agrees: bool) -> bool {
+    pub fn count(&mut self, case: &Case, agrees: bool) {
+        let asked = match case {
+            Case::Compare(..) => &mut self.compared,
+            Case::Key(..) => &mut self.keyed,
+            Case::Chain(..) => &mut self.chained,
+        };
+        *asked = asked.saturating_add(1);
         if !agrees {
             self.differing = self.differing.saturating_add(1);
         }
-        agrees
     }
 }
 
