@@ -75,12 +75,10 @@ fn paths_resolved(rt: &HostRuntime) -> anyhow::Result<()> {
         match name_chain_from_path(&units) {
             Ok(chain) => {
                 print!(rt; "  {path}: the root")?;
-                for i in 0..chain.len() {
-                    if let Some(part) = chain.get(i) {
-                        let name = Text(part.units);
-                        let place = part.place;
-                        print!(rt; ", {name} (from unit {place})")?;
-                    }
+                for part in (0..chain.len()).filter_map(|i| chain.get(i)) {
+                    let name = Text(part.units);
+                    let place = part.place;
+                    print!(rt; ", {name} (from unit {place})")?;
                 }
                 println!(rt; "")?;
             }
@@ -94,8 +92,8 @@ fn paths_resolved(rt: &HostRuntime) -> anyhow::Result<()> {
 }
 
 fn tell_records(rt: &HostRuntime, sector: &Sector) -> anyhow::Result<()> {
-    for number in 0..4u8 {
-        match sector::read(sector, number) {
+    for (number, record) in (0..).zip(sector::records(sector)) {
+        match sector::read(record, number) {
             Ok(entry) => {
                 let row = Row(entry);
                 println!(rt; "  {number}  {row}")?

@@ -1,6 +1,6 @@
 //! One sector of a directory: Monday's records, written and read back.
 use crate::text::{Text, utf16};
-use anyhow::anyhow;
+use anyhow::Context;
 use fields::color::Color;
 use fields::consts::{COLOR_OFFSET, DIR_ENTRY_LEN, NO_STREAM};
 use fields::malformed::Malformed;
@@ -24,10 +24,10 @@ const MONDAY: Timestamp = Timestamp(134_392_896_000_000_000);
 
 fn entry(heap: Global, name: &str, obj_type: ObjType, time: Timestamp) -> anyhow::Result<DirEntry> {
     let units = utf16(heap, name)?;
-    match Name::new(&units) {
-        Ok(name) => Ok(DirEntry::new(name, obj_type, time)),
-        Err(_) => Err(anyhow!("a name of more than 31 units")),
-    }
+    let name = Name::new(&units)
+        .ok()
+        .context("a name of more than 31 units")?;
+    Ok(DirEntry::new(name, obj_type, time))
 }
 
 /// The root, the storage Monday in it, and in that the streams seals and Pulses, seals on top of their tree.
@@ -50,25 +50,22 @@ pub fn monday(heap: Global) -> anyhow::Result<[DirEntry; RECORDS]> {
 /// The sector with these records, one after the other.
 pub fn write(entries: &[DirEntry; RECORDS]) -> Sector {
     let mut sector = [0; 512];
-    fill(&mut sector, entries);
+    let (records, _) = sector.as_chunks_mut::<DIR_ENTRY_LEN>();
+    for (record, entry) in records.iter_mut().zip(entries) {
+        *record = entry.to_bytes();
+    }
     sector
 }
 
-fn fill(sector: &mut [u8], entries: &[DirEntry]) {
-    for (i, entry) in entries.iter().enumerate().take(RECORDS) {
-        let at = i * DIR_ENTRY_LEN;
-        if at + DIR_ENTRY_LEN <= sector.len() {
-            sector[at..at + DIR_ENTRY_LEN].copy_from_slice(&entry.to_bytes());
-        }
-    }
+/// The records of the sector.
+pub fn records(sector: &Sector) -> &[[u8; DIR_ENTRY_LEN]] {
+    let (records, _) = sector.as_chunks::<DIR_ENTRY_LEN>();
+    records
 }
 
 /// One record of the sector, read strictly.
-pub fn read(sector: &Sector, number: u8) -> Result<DirEntry, Malformed> {
-    let at = usize::from(number % 4) * DIR_ENTRY_LEN;
-    let mut bytes = [0; DIR_ENTRY_LEN];
-    bytes.copy_from_slice(&sector[at..at + DIR_ENTRY_LEN]);
-    DirEntry::read_from(&bytes, u32::from(number), Version::V3, Validation::Strict)
+pub fn read(record: &[u8; DIR_ENTRY_LEN], number: u32) -> Result<DirEntry, Malformed> {
+    DirEntry::read_from(record, number, Version::V3, Validation::Strict)
 }
 
 /// Spoils the colour of the last record.
@@ -88,7 +85,7 @@ impl fmt::Display for Row {
         let left = Link(entry.left_sibling);
         let right = Link(entry.right_sibling);
         let child = Link(entry.child);
-        write!(f, "{kind}  {color}  {left} {right} {child}  ")?;
+        write!(f, "{kind:<7}  {color:<5}  {left} {right} {child}  ")?;
         let name = Text(entry.name.units());
         let state = entry.state_bits;
         let Timestamp(created) = entry.creation_time;
@@ -118,16 +115,16 @@ impl fmt::Display for Link {
 
 fn kind_of(obj_type: ObjType) -> &'static str {
     match obj_type {
-        ObjType::Unallocated => "free   ",
+        ObjType::Unallocated => "free",
         ObjType::Storage => "storage",
-        ObjType::Stream => "stream ",
-        ObjType::Root => "root   ",
+        ObjType::Stream => "stream",
+        ObjType::Root => "root",
     }
 }
 
 fn color_of(color: Color) -> &'static str {
     match color {
-        Color::Red => "red  ",
+        Color::Red => "red",
         Color::Black => "black",
     }
 }
