@@ -40,13 +40,12 @@ const PATHS: [&str; 6] = [
 
 fn names_in_order(rt: &HostRuntime) -> anyhow::Result<()> {
     let heap = rt.alloc();
-    let folding = TableFolding::new(&LETTERS);
-    let mut listing = Listing::new(heap);
+    let mut listing = Listing::new(heap, TableFolding::new(&LETTERS));
     println!(rt; "Names as the bench gives them:")?;
     for part in PARTS {
         let units = utf16(heap, part)?;
         match validate_name(&units) {
-            Ok(name) => match listing.enter(&folding, name)? {
+            Ok(name) => match listing.enter(name)? {
                 None => println!(rt; "  {part}")?,
                 Some(held) => {
                     let held = Text(held.units());
