@@ -7,9 +7,8 @@ use Rattle.std.proofs.lemmas.Bool.{cases_order}
 use Rattle.std.proofs.lemmas.List.Edits.{get_or-insert_at, get_or-insert_below, get_or-insert_above, length-insert}
 use Rattle.names.specs.declared.name.Name.{Name}
 use Rattle.names.specs.Keys.{key_of}
-use Rattle.names.specs.Names.{spelled}
 use Rattle.names.specs.Order.{order, compared, OneOf, Precedes, Ordered}
-use Rattle.inspection.specs.Listings.{beside, Ascends, Stands, Parts}
+use Rattle.inspection.specs.Listings.{Ascends, Stands, Parts}
 
 less_tells : (fold : ℕ → ℕ) (a b : List ℕ) → Ordered fold → compared fold a b ≡ Less → Precedes fold a b
 less_tells fold a b o e = subst (λ r. MatchOrdering r (Precedes fold a b) (key_of fold a ≡ key_of fold b) (Precedes fold b a)) e (o.told a b)
@@ -39,11 +38,11 @@ not_after Equal = omega arith
 not_after Greater = omega arith
 
 -- among names that ascend, those before a name come first, then its equal, then those after it
-rises : (fold : ℕ → ℕ) (ns : List Name) (us : List ℕ) → Ordered fold → Ascends fold ns → IsNonDecreasingBy (λ n. ordering_index (compared fold (spelled n) us)) ns
+rises : (fold : ℕ → ℕ) (ns : List Name) (us : List ℕ) → Ordered fold → Ascends fold ns → IsNonDecreasingBy (λ n. ordering_index (compared fold n us)) ns
 rises fold ns us o up i j d le lt = by_place (cases_order i j)
   where
     at : ℕ → List ℕ
-    at k = spelled (slice_index_or ns k d)
+    at k = (slice_index_or ns k d)
 
     by_answer : (a b : List ℕ) (s : Ordering) → compared fold b us ≡ s → compared fold a b ≡ Less → ordering_index (compared fold a us) ≤ ordering_index s
     by_answer a b Less f l = rw (less_less fold a b us o l f) (omega arith)
@@ -56,19 +55,19 @@ rises fold ns us o up i j d le lt = by_place (cases_order i j)
     by_place (inr (inr g)) = absurd (omega arith)
 
 -- what a search by halves answers, among names that ascend
-pub searched : (fold : ℕ → ℕ) (ns : List Name) (us : List ℕ) (r : Result ℕ ℕ) → Ordered fold → Ascends fold ns → IsBinarySearchResult (λ n. compared fold (spelled n) us) ns r → MatchResult r (Stands fold ns us) (Parts fold ns us)
+pub searched : (fold : ℕ → ℕ) (ns : List Name) (us : List ℕ) (r : Result ℕ ℕ) → Ordered fold → Ascends fold ns → IsBinarySearchResult (λ n. compared fold n us) ns r → MatchResult r (Stands fold ns us) (Parts fold ns us)
 searched fold ns us (Ok i) o up h = h
 searched fold ns us (Err i) o up h = let parts = h (rises fold ns us o up) in (λ k d l. parts.0 k d (omega arith) l, parts.1)
 
 -- a name that is entered where it parts the others
-pub entered_ascends : (fold : ℕ → ℕ) (ns : List Name) (p : ℕ) (n : Name) → Ordered fold → Ascends fold ns → p ≤ length ns → Parts fold ns (spelled n) p → Ascends fold (insert ns p n)
+pub entered_ascends : (fold : ℕ → ℕ) (ns : List Name) (p : ℕ) (n : Name) → Ordered fold → Ascends fold ns → p ≤ length ns → Parts fold ns n p → Ascends fold (insert ns p n)
 entered_ascends fold ns p n o up at parts i j d lt within = by_places (cases_order i p) (cases_order j p)
   where
     new : List Name
     new = insert ns p n
 
     Stand : ℕ → ℕ → Type 0
-    Stand i j = beside fold (slice_index_or new i d) (slice_index_or new j d) ≡ Less
+    Stand i j = compared fold (slice_index_or new i d) (slice_index_or new j d) ≡ Less
 
     above : (k : ℕ) → p < k → slice_index_or new k d ≡ slice_index_or ns (k - 1) d
     above k h = let e : k - 1 + 1 ≡ k = omega arith in subst (λ m. slice_index_or new m d ≡ slice_index_or ns (k - 1) d) e (get_or-insert_above ns p n d (k - 1) (omega arith) at)
@@ -82,13 +81,13 @@ entered_ascends fold ns p n o up at parts i j d lt within = by_places (cases_ord
     inside : j < length ns + 1
     inside = subst (λ m. j < m) (length-insert ns p n at) within
 
-    pair : (a b : Name) → slice_index_or new i d ≡ a → slice_index_or new j d ≡ b → beside fold a b ≡ Less → Stand i j
+    pair : (a b : Name) → slice_index_or new i d ≡ a → slice_index_or new j d ≡ b → compared fold a b ≡ Less → Stand i j
     pair a b e f h = rw e (rw f h)
 
     by_places : (i ≡ p) ⊎ ((i < p) ⊎ (p < i)) → (j ≡ p) ⊎ ((j < p) ⊎ (p < j)) → Stand i j
     by_places (inl e) (inl f) = absurd (omega arith)
     by_places (inl e) (inr (inl f)) = absurd (omega arith)
-    by_places (inl e) (inr (inr f)) = pair _ _ (there i e) (above j f) (o.turned (spelled (slice_index_or ns (j - 1) d)) (spelled n) ∙ ap ordering_reverse (parts.1 (j - 1) d (omega arith) (omega (arith, inside))))
+    by_places (inl e) (inr (inr f)) = pair _ _ (there i e) (above j f) (o.turned (slice_index_or ns (j - 1) d) n ∙ ap ordering_reverse (parts.1 (j - 1) d (omega arith) (omega (arith, inside))))
     by_places (inr (inl e)) (inl f) = pair _ _ (below i e) (there j f) (parts.0 i d e)
     by_places (inr (inl e)) (inr (inl f)) = pair _ _ (below i e) (below j f) (up i j d lt (omega arith))
     by_places (inr (inl e)) (inr (inr f)) = pair _ _ (below i e) (above j f) (up i (j - 1) d (omega arith) (omega (arith, inside)))

@@ -74,7 +74,7 @@ fn paths_resolved(rt: &HostRuntime) -> anyhow::Result<()> {
         match name_chain_from_path(&units) {
             Ok(chain) => {
                 print!(rt; "  {path}: the root")?;
-                for part in (0..chain.len()).filter_map(|i| chain.get(i)) {
+                for part in chain.names() {
                     let name = Text(part.units);
                     let place = part.place;
                     print!(rt; ", {name} (from unit {place})")?;

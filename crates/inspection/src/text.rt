@@ -1,5 +1,5 @@
 //! Text as UTF-16 units, and units as text.
-use names::utf16::first_code;
+use names::utf16::code_points;
 use std::alloc::{AllocError, Global};
 use std::fmt;
 
@@ -14,10 +14,8 @@ pub struct Text<'a>(pub &'a [u16]);
 
 impl fmt::Display for Text<'_> {
     fn fmt<W: fmt::Write>(&self, f: &mut fmt::Formatter<W>) -> fmt::Result {
-        let mut rest = self.0;
-        while let Some(first) = first_code(rest) {
-            f.write_char(char::from_u32(first.code).unwrap_or('?'))?;
-            rest = first.rest;
+        for code in code_points(self.0) {
+            f.write_char(char::from_u32(code).unwrap_or('?'))?;
         }
         Ok(())
     }

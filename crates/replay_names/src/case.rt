@@ -31,13 +31,7 @@ impl Case {
 /// Whether two names have one key; of names that are too long for a key in place, whether they compare equal.
 fn have_one_key<F: Folding>(folding: &F, left: &[u16], right: &[u16]) -> bool {
     match (Name::new(left), Name::new(right)) {
-        (Ok(left), Ok(right)) => {
-            let left = name_key(folding, &left);
-            let right = name_key(folding, &right);
-            left.unit_count == right.unit_count
-                && left.code_count == right.code_count
-                && left.codes == right.codes
-        }
+        (Ok(left), Ok(right)) => { name_key(folding, &left) == name_key(folding, &right) }
         _ => compare_names(folding, left, right) == Ordering::Equal,
     }
 }
@@ -47,10 +41,12 @@ fn leads_to(path: &[u16], names: &Option<Vec<Vec<u16>>>) -> bool {
     match (name_chain_from_path(path), names) {
         (Err(PathError::AboveRoot), None) => true,
         (Ok(chain), Some(names)) => {
-            chain.len() == names.len()
-                && names.iter().enumerate().all(|(i, name)| chain
-                    .get(i)
-                    .is_some_and(|part| part.units == name.as_slice()))
+            let parts = chain.names();
+            parts.len() == names.len()
+                && parts
+                    .iter()
+                    .zip(names)
+                    .all(|(part, name)| part.units == name.as_slice())
         }
         _ => false,
     }

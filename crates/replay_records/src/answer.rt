@@ -35,8 +35,8 @@ fn show_names<W: fmt::Write>(entry: &DirEntry, f: &mut fmt::Formatter<W>) -> fmt
         let unit = *unit;
         write!(f, "{unit:04x}")?;
     }
-    let kind = entry.obj_type.as_byte();
-    let color = entry.color.as_byte();
+    let kind = u8::from(entry.obj_type);
+    let color = u8::from(entry.color);
     write!(f, ".{kind:x}.{color:x}")
 }
 
