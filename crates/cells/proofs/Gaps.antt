@@ -1,14 +1,11 @@
 -- A walk along a bucket's chain to the place of a cell.
-use Rattle.std.proofs.Common.{◌≡◌, ℕ, ◌+◌, ◌-◌, ◌%◌, ◌<◌, ◌≤◌, ◌^◌, List, length, get_or, Some, None, Option, sym, refl, ap, ◌∙◌, subst, inl, inr, ⊎_elim, arith}
+use Rattle.std.proofs.Common.{◌≡◌, ℕ, ◌+◌, ◌-◌, ◌<◌, ◌≤◌, ◌^◌, List, length, get_or, Some, None, Option, sym, refl, ap, ◌∙◌, subst, inl, inr, ⊎_elim, arith}
+use Rattle.std.proofs.lemmas.Option.{same_Some}
 use Rattle.std.proofs.lemmas.List.{get_or-map}
-use Rattle.cells.specs.declared.cell.Entry.{Entry}
 use Rattle.cells.specs.declared.cell.Cell.{Cell}
-use Rattle.cells.specs.Chains.{end_of, held, head_at, next_at, Sits, In, Link, Kept, Step, Between}
-use Rattle.cells.proofs.Links.{clash, some_is, ends}
-
-pub sits_entry : {K : Type 0} (hash : K → ℕ) (n b : ℕ) (o : Option (Entry K)) → Sits hash n b o → (e : Entry K) × (o ≡ Some e) × (hash e.key % n ≡ b)
-sits_entry hash n b None h = absurd h
-sits_entry hash n b (Some e) h = (e, refl, h)
+use Rattle.cells.specs.Chains.{end_of, held, head_at, next_at, In, Link, Kept, Step, Between}
+use Rattle.cells.proofs.Sits.{sits_entry}
+use Rattle.cells.proofs.Links.{clash, ends}
 
 module _ {K : Type 0} (hash : K → ℕ) where
   pub gap_start : (cells : List (Cell K)) (b f : ℕ) (c : Cell K) → Kept hash cells → b < length cells → Step (In hash cells b) (head_at cells) (next_at cells) b f None (get_or cells b c).head
@@ -32,7 +29,7 @@ module _ {K : Type 0} (hash : K → ℕ) where
       (inr (i, refl, lt, here, sym e, l), ⊎_elim (λ z. let n : end_of y ≡ 2 ^ 64 = ap end_of z in omega arith) (λ q. let n : end_of y ≡ q.0 = ap end_of q.1 in omega (arith, q.2)) (ends y l))
 
   pub before_inside : (cells : List (Cell K)) (b f : ℕ) (before x : Option ℕ) → Between hash cells b f before x → f < length cells → (i : ℕ) → before ≡ Some i → i < length cells
-  before_inside cells b f before x s h i e = ⊎_elim (λ t. absurd (clash t.0 e)) (λ t. let q : t.0 ≡ i = some_is (sym t.1 ∙ e) in let k : t.0 < f = t.2 in omega arith) s.step
+  before_inside cells b f before x s h i e = ⊎_elim (λ t. absurd (clash t.0 e)) (λ t. let q : t.0 ≡ i = same_Some _ _ (sym t.1 ∙ e) in let k : t.0 < f = t.2 in omega arith) s.step
 
   pub not_before : (cells : List (Cell K)) (b f : ℕ) (before x : Option ℕ) → Between hash cells b f before x → before ≡ Some f → ⊥
-  not_before cells b f before x s e = ⊎_elim (λ t. clash t.0 e) (λ t. let q : t.0 ≡ f = some_is (sym t.1 ∙ e) in let k : t.0 < f = t.2 in omega arith) s.step
+  not_before cells b f before x s e = ⊎_elim (λ t. clash t.0 e) (λ t. let q : t.0 ≡ f = same_Some _ _ (sym t.1 ∙ e) in let k : t.0 < f = t.2 in omega arith) s.step

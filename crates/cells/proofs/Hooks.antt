@@ -1,10 +1,11 @@
 -- A link of a bucket's chain, written at a place of it.
 use Rattle.std.proofs.Common.{◌≡◌, ℕ, ◌<◌, List, length, get_or, set, Some, None, Option, sym, refl, ap, ◌∙◌, subst}
+use Rattle.std.proofs.lemmas.Option.{same_Some}
 use lib.Seq.{map-set_same}
 use Rattle.std.proofs.lemmas.List.{length-set}
 use Rattle.cells.specs.declared.cell.Cell.{Cell}
 use Rattle.cells.specs.Chains.{next_at, Hooked}
-use Rattle.cells.proofs.Links.{clash, some_is}
+use Rattle.cells.proofs.Links.{clash}
 use Rattle.cells.proofs.Fields.{heads_set, head_set, nexts_set, next_set}
 
 module _ {K : Type 0} where
@@ -29,5 +30,5 @@ module _ {K : Type 0} where
         heads = λ j _. ap (λ l. get_or l j None) (map-set_same (λ (y : Cell K). y.head) cells i c r refl);
         nexts = λ j o. nexts_set cells i c j (λ u. o (e ∙ ap Some (sym u)));
         head = λ z. absurd (clash z e);
-        next = λ k u. let q : i ≡ k = some_is (sym e ∙ u) in subst (λ m. next_at (set cells i c) m ≡ x) q (next_set cells i c h);
+        next = λ k u. let q : i ≡ k = same_Some _ _ (sym e ∙ u) in subst (λ m. next_at (set cells i c) m ≡ x) q (next_set cells i c h);
       }

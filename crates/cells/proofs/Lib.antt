@@ -1,3 +1,4 @@
+pub mod Sits
 pub mod Links
 pub mod Rechained
 pub mod Fields

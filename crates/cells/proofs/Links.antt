@@ -1,5 +1,6 @@
 -- How one link answers for numbers that are added or given up.
 use Rattle.std.proofs.Common.{◌≡◌, ℕ, ◌+◌, ◌<◌, ◌≤◌, ◌⊎◌, Some, None, Option, sym, refl, ap, ◌∙◌, subst, inl, inr, ⊎_elim, arith}
+use Rattle.std.proofs.lemmas.Option.{none-some}
 use Rattle.std.proofs.lemmas.Bool.{cases_lt, cases_eq}
 use Rattle.cells.specs.Chains.{end_of, Link, Step}
 
@@ -8,10 +9,7 @@ which None = inl refl
 which (Some x) = inr (x, refl)
 
 pub clash : {X : Type 0} {o : Option X} {x : X} → o ≡ None → o ≡ Some x → ⊥
-clash {X} {o} {x} e f = let t : ◌≡◌ {A = Option X} None (Some x) = sym e ∙ f in let z : ◌≡◌ {A = ℕ} 0 1 = cc in omega arith
-
-pub some_is : {X : Type 0} {x y : X} → Some x ≡ Some y → x ≡ y
-some_is e = cc
+clash {x = x} e f = none-some x (sym e ∙ f)
 
 -- a link ends, or goes to a number with the property
 pub ends : {p : ℕ → Type 0} {from : ℕ} (x : Option ℕ) → Link p from x → (x ≡ None) ⊎ ((i : ℕ) × (x ≡ Some i) × (from ≤ i) × p i)

@@ -1,19 +1,11 @@
 -- The chains stand after a cell is taken, given up, or gets another value.
 use Rattle.std.proofs.Common.{◌≡◌, ℕ, ◌+◌, ◌%◌, ◌^◌, ◌<◌, ◌≤◌, ◌⊎◌, Some, None, Option, sym, ap, ◌∙◌, subst, inl, inr, ⊎_elim, arith}
+use Rattle.std.proofs.lemmas.Option.{same_Some}
 use Rattle.std.proofs.lemmas.Bool.{cases_lt, cases_eq}
 use Rattle.cells.specs.declared.cell.Entry.{Entry}
 use Rattle.cells.specs.Chains.{end_of, Sits, Link, Chained, Step}
-use Rattle.cells.proofs.Links.{which, clash, some_is, ends, kept_link, to_new, from_new, over, beside, below}
-
-sits_none : {K : Type 0} (hash : K → ℕ) (n b : ℕ) (o : Option (Entry K)) → Sits hash n b o → o ≡ None → ⊥
-sits_none hash n b None h e = h
-sits_none hash n b (Some x) h e = let z : ◌≡◌ {A = ℕ} 0 1 = cc in omega arith
-
-sits_at : {K : Type 0} (hash : K → ℕ) (n b : ℕ) (o : Option (Entry K)) (e : Entry K) → o ≡ Some e → Sits hash n b o → hash e.key % n ≡ b
-sits_at hash n b o e q h = rw q at h
-
-sits_put : {K : Type 0} (hash : K → ℕ) (n b : ℕ) (o : Option (Entry K)) (e : Entry K) → o ≡ Some e → hash e.key % n ≡ b → Sits hash n b o
-sits_put hash n b o e q h = rw q h
+use Rattle.cells.proofs.Sits.{sits_none, sits_at, sits_put}
+use Rattle.cells.proofs.Links.{which, clash, ends, kept_link, to_new, from_new, over, beside, below}
 
 module _ {K : Type 0} (hash : K → ℕ) (n : ℕ) (v w : ℕ → Option (Entry K)) (H H' N N' : ℕ → Option ℕ) (b f : ℕ) (before x : Option ℕ) (e : Entry K)
     (kept : Chained hash n v H N) (few : n ≤ 2 ^ 64) (inside : f < n)
@@ -72,6 +64,11 @@ module _ {K : Type 0} (hash : K → ℕ) (n : ℕ) (v w : ℕ → Option (Entry 
         let l = kept.nexts i y vi in
         subst (λ z. Link (λ j. Sits hash n (hash y.key % n) (w j)) (i + 1) z) (sym (nexts i ne o)) (apart (hash y.key % n) (i + 1) (N i) (clear i y vi ne o l) l)
 
+    hooked_next : (i k : ℕ) (y : Entry K) → v i ≡ Some y → i ≡ k → before ≡ Some k → k < f → Sits hash n b (v k) → Link (λ j. Sits hash n b (v j)) (k + 1) x → Link (λ j. Sits hash n (hash y.key % n) (w j)) (i + 1) (N' i)
+    hooked_next i k y vi at is lt sits l =
+        let bk : b ≡ hash y.key % n = sym (sits_at hash n b (v k) y (ap v (sym at) ∙ vi) sits) in
+        subst (λ c. Link (λ j. Sits hash n c (w j)) (i + 1) (N' i)) bk (subst (λ m. Link (λ j. Sits hash n b (w j)) (m + 1) (N' m)) (sym at) (subst (λ z. Link (λ j. Sits hash n b (w j)) (k + 1) z) (sym (next k is)) (hooked (k + 1) (omega arith) l)))
+
     new_nexts : (i : ℕ) (y : Entry K) → w i ≡ Some y → Link (λ j. Sits hash n (hash y.key % n) (w j)) (i + 1) (N' i)
     new_nexts i y q =
         ⊎_elim (λ at. let t : Some e ≡ Some y = sym new ∙ ap w (sym at) ∙ q in let u : e ≡ y = cc in
@@ -80,9 +77,8 @@ module _ {K : Type 0} (hash : K → ℕ) (n : ℕ) (v w : ℕ → Option (Entry 
         (⊎_elim (λ s. onward 0 (omega arith) s.2) (λ s. onward (s.0 + 1) (omega (arith, s.2)) s.5) step))))
         (λ ne. let vi = old_entry i y ne q in
         ⊎_elim (λ s. plain i y vi ne (λ u. clash s.0 u))
-        (λ s. ⊎_elim (λ at. let bk : b ≡ hash y.key % n = sym (sits_at hash n b (v s.0) y (ap v (sym at) ∙ vi) s.3) in
-        subst (λ c. Link (λ j. Sits hash n c (w j)) (i + 1) (N' i)) bk (subst (λ k. Link (λ j. Sits hash n b (w j)) (k + 1) (N' k)) (sym at) (subst (λ z. Link (λ j. Sits hash n b (w j)) (s.0 + 1) z) (sym (next s.0 s.1)) (hooked (s.0 + 1) (omega (arith, s.2)) s.5))))
-        (λ no'. plain i y vi ne (λ u. no' (some_is (sym u ∙ s.1)))) (cases_eq i s.0)) step) (cases_eq i f)
+        (λ s. ⊎_elim (λ at. hooked_next i s.0 y vi at s.1 s.2 s.3 s.5)
+        (λ no'. plain i y vi ne (λ u. no' (same_Some _ _ (sym u ∙ s.1)))) (cases_eq i s.0)) step) (cases_eq i f)
 
     pub put_chained : Chained hash n w H' N'
     put_chained = record { heads = new_heads; nexts = new_nexts }
@@ -126,14 +122,18 @@ module _ {K : Type 0} (hash : K → ℕ) (n : ℕ) (v w : ℕ → Option (Entry 
         let s = l.stands f u in let k : end_of (N i) < f = beside (λ j. Sits hash n b (v j)) H N b f before x step past i (N i) (sits_put hash n b (v i) y vi q) (omega (arith, s.0)) o (subst (λ c. Link (λ j. Sits hash n c (v j)) (i + 1) (N i)) q l) in
         let g : end_of (N i) ≡ f = ap end_of u in omega arith) l)
 
+    skipped_next : (i k : ℕ) (y : Entry K) → v i ≡ Some y → i ≡ k → before ≡ Some k → k < f → Sits hash n b (v k) → Link (λ j. Sits hash n b (v j)) (k + 1) x → Link (λ j. Sits hash n (hash y.key % n) (w j)) (i + 1) (N' i)
+    skipped_next i k y vi at is lt sits l =
+        let bk : b ≡ hash y.key % n = sym (sits_at hash n b (v k) y (ap v (sym at) ∙ vi) sits) in
+        subst (λ c. Link (λ j. Sits hash n c (w j)) (i + 1) (N' i)) bk (subst (λ m. Link (λ j. Sits hash n b (w j)) (m + 1) (N' m)) (sym at) (subst (λ z. Link (λ j. Sits hash n b (w j)) (k + 1) z) (sym (next k is)) (skip (k + 1) (omega arith) l)))
+
     rest_nexts : (i : ℕ) (y : Entry K) → w i ≡ Some y → Link (λ j. Sits hash n (hash y.key % n) (w j)) (i + 1) (N' i)
     rest_nexts i y q =
         let ne : i ≡ f → ⊥ = λ u. let t : ◌≡◌ {A = Option (Entry K)} None (Some y) = sym gone ∙ ap w (sym u) ∙ q in let o : ◌≡◌ {A = ℕ} 0 1 = cc in omega arith in
         let vi : v i ≡ Some y = sym (others i ne) ∙ q in
         ⊎_elim (λ s. still i y vi (λ u. clash s.0 u))
-        (λ s. ⊎_elim (λ at. let bk : b ≡ hash y.key % n = sym (sits_at hash n b (v s.0) y (ap v (sym at) ∙ vi) s.3) in
-        subst (λ c. Link (λ j. Sits hash n c (w j)) (i + 1) (N' i)) bk (subst (λ k. Link (λ j. Sits hash n b (w j)) (k + 1) (N' k)) (sym at) (subst (λ z. Link (λ j. Sits hash n b (w j)) (s.0 + 1) z) (sym (next s.0 s.1)) (skip (s.0 + 1) (omega (arith, s.2)) s.5))))
-        (λ no'. still i y vi (λ u. no' (some_is (sym u ∙ s.1)))) (cases_eq i s.0)) step
+        (λ s. ⊎_elim (λ at. skipped_next i s.0 y vi at s.1 s.2 s.3 s.5)
+        (λ no'. still i y vi (λ u. no' (same_Some _ _ (sym u ∙ s.1)))) (cases_eq i s.0)) step
 
     pub gone_chained : Chained hash n w H' N'
     gone_chained = record { heads = rest_heads; nexts = rest_nexts }

@@ -1,5 +1,6 @@
 -- A table's rules and its map after one of its calls.
 use Rattle.std.proofs.Common.{◌≡◌, ℕ, ◌+◌, ◌-◌, ◌<◌, ◌≤◌, Bool, List, length, get_or, set, is_some, Some, None, Option, sym, ap, ◌∙◌, subst, ⊎_elim, arith}
+use Rattle.std.proofs.lemmas.Option.{none-some}
 use Rattle.std.specs.Cmp.{IsEquivalence}
 use Rattle.std.proofs.lemmas.List.{get_or-map, get_or_past, set-get_or, set-set}
 use Rattle.std.proofs.lemmas.Bool.{cases_lt, cases_eq}
@@ -10,7 +11,7 @@ use Rattle.cells.specs.Rules.{Rules}
 use Rattle.cells.specs.Maps.{value_in, Puts, Drops, Blank, with_key, without_key, Empty}
 use Rattle.cells.proofs.Links.{clash}
 use Rattle.cells.proofs.Fields.{length-held}
-use Rattle.cells.proofs.Entries.{some_none, At, set_here}
+use Rattle.cells.proofs.Entries.{At, set_here}
 use Rattle.cells.proofs.Lookups.{find_none}
 use Rattle.cells.proofs.Firsts.{taken_below}
 use Rattle.cells.proofs.Edited.{Holding, put_new, found_value, put_value, drop_last, drop_moved, lacks_value, drop_none}
@@ -33,7 +34,7 @@ module _ {K : Type 0} (cells : List (Cell K)) (all : Empty cells) where
   free j = ⊎_elim (λ h. get_or-map (λ (x : Cell K). x.entry) cells j emptied None h ∙ ap (λ (x : Cell K). x.entry) (all j emptied h)) (λ g. get_or_past (held cells) j None (rw (length-held cells) g)) (cases_lt j (length cells))
 
   nothing : (j : ℕ) (e : Entry K) → At (held cells) j e → ⊥
-  nothing j e q = some_none e (sym (free j) ∙ q)
+  nothing j e q = none-some e (sym (free j) ∙ q)
 
   pub empty_rules : (hash : K → ℕ) (same : K → K → Bool) → Rules hash same cells 0
   empty_rules hash same = record {

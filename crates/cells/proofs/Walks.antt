@@ -1,32 +1,26 @@
 -- A walk along the chain of a key meets every cell that could hold the key.
 use Rattle.std.proofs.Common.{◌≡◌, ℕ, ◌+◌, ◌-◌, ◌%◌, ◌^◌, ◌<◌, ◌≤◌, Bool, true, false, List, length, get_or, Some, None, Option, sym, ap, ◌∙◌, subst, ⊎_elim, arith}
+use Rattle.std.proofs.lemmas.Option.{same_Some}
 use Rattle.std.proofs.lemmas.List.{get_or_past}
 use Rattle.std.proofs.lemmas.Bool.{cases_lt, cases_eq}
 use Rattle.cells.specs.declared.cell.Entry.{Entry}
 use Rattle.cells.specs.declared.cell.Cell.{Cell}
-use Rattle.cells.specs.Chains.{end_of, held, Sits, In, Link, Kept, Holds, Lacks, Passed}
+use Rattle.cells.specs.Chains.{end_of, held, In, Link, Kept, Holds, Lacks, Passed}
 use Rattle.cells.proofs.Entries.{both}
-use Rattle.cells.proofs.Links.{some_is, ends}
+use Rattle.cells.proofs.Links.{ends}
 use Rattle.cells.proofs.Fields.{held_read, head_read, next_read, length-held}
-use Rattle.cells.proofs.Gaps.{sits_entry}
+use Rattle.cells.proofs.Sits.{sits_none, sits_put, sits_entry}
 
 module _ {K : Type 0} where
-  sits_some : (hash : K → ℕ) (n b : ℕ) (o : Option (Entry K)) → Sits hash n b o → o ≡ None → ⊥
-  sits_some hash n b None h e = h
-  sits_some hash n b (Some x) h e = let z : ◌≡◌ {A = ℕ} 0 1 = cc in omega arith
-
   -- a number in a bucket is a cell's
   pub in_inside : (hash : K → ℕ) (cells : List (Cell K)) (b j : ℕ) → In hash cells b j → j < length cells
   in_inside hash cells b j h =
-      ⊎_elim (λ l. l) (λ g. absurd (sits_some hash (length cells) b (get_or (held cells) j None) h (get_or_past (held cells) j None (rw (length-held cells) g)))) (cases_lt j (length cells))
-
-  pub in_made : (hash : K → ℕ) (n b : ℕ) (o : Option (Entry K)) (e : Entry K) → o ≡ Some e → hash e.key % n ≡ b → Sits hash n b o
-  in_made hash n b o e q h = rw q h
+      ⊎_elim (λ l. l) (λ g. absurd (sits_none hash (length cells) b (get_or (held cells) j None) h (get_or_past (held cells) j None (rw (length-held cells) g)))) (cases_lt j (length cells))
 
 module _ {K : Type 0} (same : K → K → Bool) (hash : K → ℕ) (agrees : (x y : K) → same x y ≡ true → hash x ≡ hash y) where
   -- a cell with a key like k is in the bucket of k
   alike_in : (cells : List (Cell K)) (k : K) (j : ℕ) (e : Entry K) → get_or (held cells) j None ≡ Some e → same e.key k ≡ true → In hash cells (hash k % length cells) j
-  alike_in cells k j e q a = in_made hash (length cells) (hash k % length cells) (get_or (held cells) j None) e q (ap (λ h. h % length cells) (agrees e.key k a))
+  alike_in cells k j e q a = sits_put hash (length cells) (hash k % length cells) (get_or (held cells) j None) e q (ap (λ h. h % length cells) (agrees e.key k a))
 
   pub passed_start : (cells : List (Cell K)) (k : K) (c : Cell K) (h : ℕ) → Kept hash cells → h ≡ hash k → h % length cells < length cells → c ≡ get_or cells (h % length cells) c → Passed same hash cells k (get_or cells (h % length cells) c).head
   passed_start cells k c h kept q below e =
@@ -49,7 +43,7 @@ module _ {K : Type 0} (same : K → K → Bool) (hash : K → ℕ) (agrees : (x 
         record {
           stands = λ j s. (l.stands j s).1;
           none = λ j y lt hj a. ⊎_elim (λ before. p.none j y (omega arith) hj a) (λ after.
-              ⊎_elim (λ eq. let u : x ≡ y = some_is (sym t.1 ∙ ap (λ n. get_or (held cells) n None) (sym eq) ∙ hj) in both (same y.key k) a (ap (λ (z : Entry K). same z.key k) (sym u) ∙ other))
+              ⊎_elim (λ eq. let u : x ≡ y = same_Some _ _ (sym t.1 ∙ ap (λ n. get_or (held cells) n None) (sym eq) ∙ hj) in both (same y.key k) a (ap (λ (z : Entry K). same z.key k) (sym u) ∙ other))
               (λ ne. l.first j (omega arith) lt (alike_in cells k j y hj a)) (cases_eq j i)) (cases_lt j i);
         },
         ⊎_elim (λ z. let n : end_of c.next ≡ 2 ^ 64 = ap end_of z in omega arith) (λ q. let n : end_of c.next ≡ q.0 = ap end_of q.1 in omega (arith, q.2)) (ends c.next l),
