@@ -1,19 +1,16 @@
 -- What stands in a list of entries before and after one place is written.
-use Rattle.std.proofs.Common.{◌≡◌, ℕ, ◌<◌, Bool, true, false, ◌⊎◌, List, length, get_or, set, is_some, Some, None, Option, sym, refl, ap, ◌∙◌, inl, inr, ⊎_elim}
+use Rattle.std.proofs.Common.{◌≡◌, ℕ, ◌<◌, true, false, ◌⊎◌, List, length, get_or, set, is_some, Some, None, Option, sym, refl, ap, ◌∙◌, inl, inr, ⊎_elim}
 use Rattle.cells.specs.declared.cell.Entry.{Entry}
 use Rattle.std.proofs.lemmas.List.{get_or-set_same, get_or-set_other}
 use Rattle.std.proofs.lemmas.Bool.{both_ways, cases_eq}
 
-pub both : (b : Bool) → b ≡ true → b ≡ false → ⊥
-both b p q = both_ways b q p
-
 pub some_of : {X : Type 0} (o : Option X) → is_some o ≡ true → (x : X) × (o ≡ Some x)
-some_of None h = absurd (both true refl (sym h))
+some_of None h = absurd (both_ways true (sym h) refl)
 some_of (Some x) h = (x, refl)
 
 pub none_of : {X : Type 0} (o : Option X) → is_some o ≡ false → o ≡ None
 none_of None h = refl
-none_of (Some x) h = absurd (both true refl h)
+none_of (Some x) h = absurd (both_ways true h refl)
 
 -- cell j holds the entry e
 abbrev pub At : {K : Type 0} → List (Option (Entry K)) → ℕ → Entry K → Type 0

@@ -1,14 +1,14 @@
 -- The keys stay in the first cells.
 use Rattle.std.proofs.Common.{◌≡◌, ℕ, ◌+◌, ◌<◌, ◌≤◌, List, length, get_or, set, is_some, Some, None, Option, ap, ◌∙◌, ⊎_elim, arith}
 use Rattle.std.proofs.lemmas.List.{length-set, get_or-set_other}
-use Rattle.std.proofs.lemmas.Bool.{cases_lt, cases_eq}
+use Rattle.std.proofs.lemmas.Bool.{both_ways, cases_lt, cases_eq}
 use Rattle.cells.specs.declared.cell.Entry.{Entry}
 use Rattle.cells.specs.Rules.{Dense}
-use Rattle.cells.proofs.Entries.{both, At, set_here}
+use Rattle.cells.proofs.Entries.{At, set_here}
 
 module _ {K : Type 0} (vs : List (Option (Entry K))) (count : ℕ) (dense : Dense vs count) where
   pub taken_below : (i : ℕ) (e : Entry K) → At vs i e → i < count
-  taken_below i e q = ⊎_elim (λ l. l) (λ g. absurd (both (is_some (get_or vs i None)) (ap is_some q) (dense.free i g))) (cases_lt i count)
+  taken_below i e q = ⊎_elim (λ l. l) (λ g. absurd (both_ways (is_some (get_or vs i None)) (dense.free i g) (ap is_some q))) (cases_lt i count)
 
   -- the first free place is taken
   pub dense_put : (e : Entry K) → count < length vs → Dense (set vs count (Some e)) (count + 1)

@@ -2,11 +2,11 @@
 use Rattle.std.proofs.Common.{◌≡◌, ℕ, zero, suc, ◌<◌, Bool, true, false, cond, ◌⊎◌, List, [], ◌∷◌, length, get_or, set, Some, None, Option, sym, refl, ap, ◌∙◌, inl, inr, ⊎_elim, arith}
 use Rattle.std.proofs.lemmas.Option.{none-some}
 use Rattle.std.specs.Cmp.{IsEquivalence, partial_equiv_from_equiv}
-use Rattle.std.proofs.lemmas.Bool.{cases_Bool}
+use Rattle.std.proofs.lemmas.Bool.{both_ways, cases_Bool}
 use Rattle.cells.specs.declared.cell.Entry.{Entry}
 use Rattle.cells.specs.Rules.{Once}
 use Rattle.cells.specs.Maps.{value_in}
-use Rattle.cells.proofs.Entries.{both, At, set_here, at_set, set_at}
+use Rattle.cells.proofs.Entries.{At, set_here, at_set, set_at}
 
 turned : {K : Type 0} {same : K → K → Bool} → IsEquivalence same → (x y : K) → same x y ≡ true → same y x ≡ true
 turned laws x y h = laws.symm y x ∙ h
@@ -44,7 +44,7 @@ module _ {K : Type 0} (same : K → K → Bool) (laws : IsEquivalence same) wher
     past vs k f (suc j) e q a = f j e q a
   searched (Some x ∷ vs) k = ⊎_elim (λ t. inl (0, x, refl, t)) (λ z. ⊎_elim (λ h. inl (suc h.0, h.1, h.2, h.3)) (λ f. inr (λ j. past vs k x z f j)) (searched vs k)) (cases_Bool (same x.key k)) where
     past : (vs : List (Option (Entry K))) (k : K) (x : Entry K) → same x.key k ≡ false → ((j : ℕ) (e : Entry K) → At vs j e → same e.key k ≡ true → ⊥) → (j : ℕ) (e : Entry K) → At (Some x ∷ vs) j e → same e.key k ≡ true → ⊥
-    past vs k x z f zero e q a = let u : x ≡ e = cc in both (same e.key k) a (rw u at z)
+    past vs k x z f zero e q a = let u : x ≡ e = cc in both_ways (same e.key k) (rw u at z) a
     past vs k x z f (suc j) e q a = f j e q a
 
   module _ (vs : List (Option (Entry K))) (f : ℕ) (e : Entry K) (inside : f < length vs) (once : Once same vs) where
@@ -63,7 +63,7 @@ module _ {K : Type 0} (same : K → K → Bool) (laws : IsEquivalence same) wher
           (λ z. rw z (⊎_elim
           (λ h. find_some (set vs f (Some e)) k h.0 h.1 once_put (set_at vs f (Some e) inside h.0 h.1 (λ q. none-some h.1 (sym free ∙ ap (λ i. get_or vs i None) (sym q) ∙ h.2)) h.2) h.3
           ∙ sym (find_some vs k h.0 h.1 once h.2 h.3))
-          (λ n. find_none (set vs f (Some e)) k (λ j x q a. ⊎_elim (λ s. let u : e ≡ x = let w = s.1 in cc in both (same x.key k) a (rw u at z)) (λ s. n j x s.1 a) (at_set vs f (Some e) inside j x q)) ∙ sym (find_none vs k n))
+          (λ n. find_none (set vs f (Some e)) k (λ j x q a. ⊎_elim (λ s. let u : e ≡ x = let w = s.1 in cc in both_ways (same x.key k) (rw u at z) a) (λ s. n j x s.1 a) (at_set vs f (Some e) inside j x q)) ∙ sym (find_none vs k n))
           (searched vs k))) (cases_Bool (same e.key k))
 
     -- a key given up
@@ -77,7 +77,7 @@ module _ {K : Type 0} (same : K → K → Bool) (laws : IsEquivalence same) wher
       look_gone k =
           ⊎_elim (λ t. rw t (find_none (set vs f None) k (λ j x q a. ⊎_elim (λ s. none-some x s.1) (λ s. s.0 (once j f x e s.1 taken (joined laws x.key k e.key a (turned laws e.key k t)))) (at_set vs f None inside j x q))))
           (λ z. rw z (⊎_elim
-          (λ h. find_some (set vs f None) k h.0 h.1 once_gone (set_at vs f None inside h.0 h.1 (λ q. let w : Some e ≡ Some h.1 = sym taken ∙ ap (λ i. get_or vs i None) (sym q) ∙ h.2 in let u : e ≡ h.1 = cc in both (same h.1.key k) h.3 (rw u at z)) h.2) h.3
+          (λ h. find_some (set vs f None) k h.0 h.1 once_gone (set_at vs f None inside h.0 h.1 (λ q. let w : Some e ≡ Some h.1 = sym taken ∙ ap (λ i. get_or vs i None) (sym q) ∙ h.2 in let u : e ≡ h.1 = cc in both_ways (same h.1.key k) (rw u at z) h.3) h.2) h.3
           ∙ sym (find_some vs k h.0 h.1 once h.2 h.3))
           (λ n. find_none (set vs f None) k (λ j x q a. ⊎_elim (λ s. none-some x s.1) (λ s. n j x s.1 a) (at_set vs f None inside j x q)) ∙ sym (find_none vs k n))
           (searched vs k))) (cases_Bool (same e.key k))

@@ -1,14 +1,14 @@
 -- The numbers of a list are put into a map, one after another, up to the first that is there already.
 use Rattle.std.proofs.Common.{◌≡◌, ℕ, ◌+◌, ◌<◌, ◌≤◌, true, false, cond, List, length, get_or, is_some, Some, Option, Ok, Err, Result, MatchResult, sym, ap, ◌∙◌, ⊎_elim, arith, eq-eqb}
 use Rattle.std.specs.declared.cmp.PartialEq as Equality
-use Rattle.std.proofs.lemmas.Bool.{cases_eq, ne_eqb}
+use Rattle.std.proofs.lemmas.Bool.{both_ways, cases_eq, ne_eqb}
 use Rattle.keys.specs.declared.key.Key as Hashing
 use Rattle.keys.specs.declared.sector.SectorNumber.{SectorNumber}
 use Rattle.keys.specs.Keys.{same_sector}
 use Rattle.cells.specs.declared.table.Table.{Table}
 use Rattle.cells.specs.Maps.{size_of, Inserted, Refused, Puts, Blank, with_key}
 use Rattle.cells.specs.Repeats.{Repeats, Distinct, FirstRepeat}
-use Rattle.cells.proofs.Entries.{both, none_of}
+use Rattle.cells.proofs.Entries.{none_of}
 
 -- while a cell is free, an insertion is accepted
 pub accepted : {K A E : Type 0} {hashing : Hashing.Ghosts K} {equality : Equality.Ghosts K} (r : Result A E) (t u : Table K hashing equality) (key : K) (value : ℕ) →
@@ -27,7 +27,7 @@ pub marking_none : (xs : List ℕ) (map : SectorNumber → Option ℕ) (count : 
 marking_none xs map count blank counted = record {
   counted = counted;
   holds = λ k j h e. absurd (omega arith);
-  only = λ k h. absurd (both (is_some (map k)) h (ap is_some (blank k)));
+  only = λ k h. absurd (both_ways (is_some (map k)) (ap is_some (blank k)) h);
   fresh = λ j h r. absurd (omega arith);
 }
 
@@ -52,5 +52,5 @@ module _ (xs : List ℕ) (map : SectorNumber → Option ℕ) (count i : ℕ) (m 
         counted = counts ∙ ap (λ o. with_key o count) (none_of (map key) (sym absent)) ∙ ap (λ z. z + 1) m.counted;
         holds = λ k j h e. ⊎_elim (λ q. put_here k q) (λ ne. put_other k ne ∙ m.holds k j (let d : j ≡ i → ⊥ = λ z. ne (here ∙ ap (λ z. get_or xs z 0) (sym z) ∙ e) in omega arith) e) (cases_eq key.0 k.0);
         only = λ k h. ⊎_elim (λ q. (i, omega arith, sym here ∙ q)) (λ ne. let w = m.only k (sym (put_other k ne) ∙ h) in (w.0, omega (arith, w.1), w.2)) (cases_eq key.0 k.0);
-        fresh = λ j h r. ⊎_elim (λ q. both (is_some (map key)) (m.holds key r.1.0 (omega (arith, r.1.1)) (r.1.2 ∙ ap (λ z. get_or xs z 0) q ∙ sym here)) (sym absent)) (λ ne. m.fresh j (omega arith) r) (cases_eq j i);
+        fresh = λ j h r. ⊎_elim (λ q. both_ways (is_some (map key)) (sym absent) (m.holds key r.1.0 (omega (arith, r.1.1)) (r.1.2 ∙ ap (λ z. get_or xs z 0) q ∙ sym here))) (λ ne. m.fresh j (omega arith) r) (cases_eq j i);
       }

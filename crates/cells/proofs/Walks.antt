@@ -2,11 +2,10 @@
 use Rattle.std.proofs.Common.{◌≡◌, ℕ, ◌+◌, ◌-◌, ◌%◌, ◌^◌, ◌<◌, ◌≤◌, Bool, true, false, List, length, get_or, Some, None, Option, sym, ap, ◌∙◌, subst, ⊎_elim, arith}
 use Rattle.std.proofs.lemmas.Option.{same_Some}
 use Rattle.std.proofs.lemmas.List.{get_or_past}
-use Rattle.std.proofs.lemmas.Bool.{cases_lt, cases_eq}
+use Rattle.std.proofs.lemmas.Bool.{both_ways, cases_lt, cases_eq}
 use Rattle.cells.specs.declared.cell.Entry.{Entry}
 use Rattle.cells.specs.declared.cell.Cell.{Cell}
 use Rattle.cells.specs.Chains.{end_of, held, In, Link, Kept, Holds, Lacks, Passed}
-use Rattle.cells.proofs.Entries.{both}
 use Rattle.cells.proofs.Links.{ends}
 use Rattle.cells.proofs.Fields.{held_read, head_read, next_read, length-held}
 use Rattle.cells.proofs.Sits.{sits_none, sits_put, sits_entry}
@@ -43,7 +42,7 @@ module _ {K : Type 0} (same : K → K → Bool) (hash : K → ℕ) (agrees : (x 
         record {
           stands = λ j s. (l.stands j s).1;
           none = λ j y lt hj a. ⊎_elim (λ before. p.none j y (omega arith) hj a) (λ after.
-              ⊎_elim (λ eq. let u : x ≡ y = same_Some _ _ (sym t.1 ∙ ap (λ n. get_or (held cells) n None) (sym eq) ∙ hj) in both (same y.key k) a (ap (λ (z : Entry K). same z.key k) (sym u) ∙ other))
+              ⊎_elim (λ eq. let u : x ≡ y = same_Some _ _ (sym t.1 ∙ ap (λ n. get_or (held cells) n None) (sym eq) ∙ hj) in both_ways (same y.key k) (ap (λ (z : Entry K). same z.key k) (sym u) ∙ other) a)
               (λ ne. l.first j (omega arith) lt (alike_in cells k j y hj a)) (cases_eq j i)) (cases_lt j i);
         },
         ⊎_elim (λ z. let n : end_of c.next ≡ 2 ^ 64 = ap end_of z in omega arith) (λ q. let n : end_of c.next ≡ q.0 = ap end_of q.1 in omega (arith, q.2)) (ends c.next l),

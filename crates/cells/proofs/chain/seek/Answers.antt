@@ -1,5 +1,5 @@
 use Rattle.std.proofs.Common.{◌≡◌, false, ⊎_elim, arith, rules}
-use Rattle.cells.proofs.Entries.{both}
+use Rattle.std.proofs.lemmas.Bool.{both_ways}
 use Rattle.cells.proofs.Links.{which}
 use Rattle.cells.proofs.Walks.{passed_start, passed_inside, passed_next, passed_all, found}
 use Rattle.cells.proofs.chain.seek.Goals as goal
@@ -15,7 +15,7 @@ bounds-cells-at g c = passed_inside g.K.PartialEq.eq g.K.Key.hashed g.met.K.Key.
 
 pub returns-then-is_some_and : goal.returns-then-is_some_and
 returns-then-is_some_and g c =
-    ⊎_elim (λ none. absurd (let never : c.is_some_and.result ≡ false = search rules in both _ c.if-is_some_and.true never))
+    ⊎_elim (λ none. absurd (let never : c.is_some_and.result ≡ false = search rules in both_ways _ never c.if-is_some_and.true))
     (λ some. found g.K.PartialEq.eq g.K.Key.hashed g.met.K.Key.agrees _ _ _ _ _ _ c.loop-link.invariant c.in-Some.is c.index-cells-at.is some.1 (search rules))
     (which c.index-cells-at.result.entry)
 
