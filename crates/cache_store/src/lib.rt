@@ -20,6 +20,7 @@ mod copies;
 
 /// A store that writes through and keeps the first sixteen records that are read. It means the store below with those
 /// laid over it.
+#[derive(Drop)]
 pub struct CacheStore<S> {
     inner: S,
     copies: Copies,

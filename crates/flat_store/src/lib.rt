@@ -16,6 +16,7 @@ use stores::store::{MAX_RECORDS, RecordStore};
 use stores::unfit::Unfit;
 
 /// Records end to end in lent bytes. It grows by one record while the bytes have room, and keeps no count.
+#[derive(Drop)]
 pub struct FlatStore<'a> {
     bytes: &'a mut [u8],
     version: Version,

@@ -17,6 +17,7 @@ pub mod store;
 /// sectors of the list are in use, and growing takes the next. Version 4 keeps a count of the sectors in the header.
 ///
 /// A store that is new holds nothing; `claim` looks the list over and takes its sectors up.
+#[derive(Drop)]
 pub struct SectorStore<'a> {
     version: Version,
     bytes: &'a mut [u8],

@@ -14,6 +14,7 @@ use stores::store::RecordStore;
 
 /// A store that faults from its n-th write on, growths and posts included. What is not there, and growing without room,
 /// is no write.
+#[derive(Drop)]
 pub struct TripStore<S> {
     inner: S,
     /// How many writes still go through.
