@@ -1,18 +1,10 @@
-use Rattle.std.proofs.Common.{◌≡◌, get_or, Some, sym, ap, ◌∙◌, arith, rules}
-use Rattle.std.proofs.lemmas.List.{length-set}
+use Rattle.std.proofs.Common.{◌≡◌, get_or, Some, sym, ap, ◌∙◌, arith}
 use Rattle.cells.proofs.Fields.{held_read, reread}
-use Rattle.cells.proofs.Gaps.{before_inside}
 use Rattle.cells.proofs.Moves.{gone_all, gone_none}
 use Rattle.cells.proofs.chain.give_up.Goals as goal
 
 pub returns-in_err-entry-clause-held : goal.returns-in_err-entry-clause-held
 returns-in_err-entry-clause-held g c = gone_none _ _ (get_or c.args.cells.now c.args.f c.index-cells-f.result) c.requires.inside (reread _ _ _ _ c.requires.inside) c.in_err-entry.was
-
-pub hook-requires : goal.hook-requires
-hook-requires g c = record {
-  bucket = search rules;
-  inside = λ i e. let h = before_inside g.K.Key.hashed _ _ _ _ _ c.find_gap-before.ensures c.requires.inside i e in simp length-set h;
-}
 
 pub returns : goal.returns
 returns g c =

@@ -1,13 +1,7 @@
 use Rattle.std.proofs.Common.{◌<◌, is_some, refl, ap, ◌∙◌, arith}
 use Rattle.cells.specs.Maps.{size_of}
-use Rattle.cells.proofs.Marking.{accepted, marking_none, marking_all, marking_found, marking_more}
+use Rattle.cells.proofs.Marking.{accepted, marking_all, marking_more}
 use Rattle.cells.proofs.repeat.first_repeat.Goals as goal
-
-pub loop-place-init : goal.loop-place-init
-loop-place-init c = (record { lender = refl; size = refl }, marking_none _ _ _ c.requires.blank c.requires.count)
-
-pub returns-then-is_some : goal.returns-then-is_some
-returns-then-is_some c = record { cells = c.loop-place.invariant.0; place = marking_found _ _ _ _ c.loop-place.invariant.1 _ c.loop-place-test.true refl (c.if-is_some.ensures ∙ ap is_some c.find.ensures) }
 
 pub loop-place-preserved : goal.loop-place-preserved
 loop-place-preserved c =
@@ -20,5 +14,5 @@ loop-place-preserved c =
       marking_more _ _ _ _ marking _ c.loop-place-test.true refl _ done.puts _ (c.if-is_some.ensures ∙ ap is_some c.find.ensures) done.counts,
     )
 
-pub returns : goal.returns
-returns c = record { cells = c.loop-place.invariant.0; place = marking_all _ _ _ _ c.loop-place.invariant.1 (omega arith) }
+pub returns-clause-place : goal.returns-clause-place
+returns-clause-place c = marking_all _ _ _ _ c.loop-place.invariant.1 (omega arith)
