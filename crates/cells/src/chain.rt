@@ -7,8 +7,8 @@ ghost use Rattle.cells.specs.Chains.{held, valued, revalued, without, Kept, Hold
 use crate::cell::{Cell, Entry};
 use keys::key::Key;
 
-// Functions over lent cells, each of which asks that they are chained. In a type of chained cells, held by a table,
-// the fact would hide from a table's caller what stands in its cells afterwards.
+// Functions over lent cells, each of which asks that they are chained. A type of chained cells, held by a table, would
+// hide from the table's caller what stands in the cells afterwards.
 
 /// The cell that holds a key the same as this one.
 pub(crate) fn seek<K: Key + Copy>(cells: &[Cell<K>], key: &K) -> Option<usize>
