@@ -38,11 +38,12 @@ impl<S> CacheStore<S> {
         }
     }
 
+    // Each wrapper's own, as of any wrapper: a trait for both would say no more.
     /// The store below.
     pub fn into_inner(self) -> S
         ensures { result ≡ self.inner }
     {
-        let CacheStore { inner, copies: _ } = self;
+        let CacheStore { inner, .. } = self;
         inner
     }
 }

@@ -40,6 +40,7 @@ pub enum Flaw {
 }
 
 impl Flaw {
+    // No `From`: a flaw has a number and an offset, and is neither.
     /// The refusal's number.
     pub fn number(self) -> u16
         ensures { result ≡ flaw_number self }
@@ -90,6 +91,7 @@ pub struct Malformed {
 }
 
 impl Malformed {
+    // No `From`, as for `Flaw`.
     /// The refusal's number.
     pub fn number(self) -> u16
         ensures { result ≡ refusal_number self }

@@ -43,6 +43,7 @@ pub enum NameError {
 }
 
 impl NameError {
+    // No `From`: a refusal has a number, and is none.
     /// The refusal's number.
     pub fn number(self) -> u16
         ensures { result ≡ name_number self }

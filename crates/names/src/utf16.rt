@@ -31,6 +31,7 @@ impl Iterator for CodePoints<'_> {
     }
 }
 
+// Three ranges, each with a name: one function of a range would move them to its callers.
 /// Whether a unit is the first half of a surrogate pair.
 fn is_high(unit: u16) -> bool
     ensures { result ≡ high unit }

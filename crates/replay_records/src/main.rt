@@ -31,11 +31,7 @@ fn replay(rt: &HostRuntime) -> anyhow::Result<Tally> {
     Ok(tally)
 }
 
-fn run(rt: &HostRuntime) -> anyhow::Result<()> {
-    rt.println(replay(rt)?)?;
-    Ok(())
-}
-
 fn main(rt: HostRuntime) -> anyhow::Result<()> {
-    run(&rt)
+    rt.println(replay(&rt)?)?;
+    Ok(())
 }

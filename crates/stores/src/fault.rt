@@ -16,7 +16,7 @@ pub enum Layer {
 }
 
 impl Layer {
-    // By a number, since the C interface tells a fault by numbers.
+    // No `From`: a layer has a number, and is none.
     /// The layer's number.
     pub fn number(self) -> u32
         ensures { result ≡ layer_number self }
@@ -40,7 +40,7 @@ pub enum Cause {
 }
 
 impl Cause {
-    // By a number, since the C interface tells a fault by numbers.
+    // No `From`: a cause has a number, and is none.
     /// The cause's number.
     pub fn number(self) -> u32
         ensures { result ≡ cause_number self }
@@ -52,7 +52,7 @@ impl Cause {
     }
 }
 
-// A number and an offset in any case, since the C interface tells each fault by four numbers.
+// No `Option` of a place: every fault is told by four numbers, and a growth's and a post's are zeros.
 /// What a store call failed with. A growth and a post have no record of their own: their number and offset are 0.
 #[derive(Debug, Clone, Copy, PartialEq, Eq)]
 pub struct Fault {
@@ -65,6 +65,7 @@ pub struct Fault {
 }
 
 impl Fault {
+    // Two makers, each named after its cause: with the cause as a parameter one would only repeat the fields.
     /// The fault of a layer that has no such record, or not so many bytes in it.
     pub fn not_there(layer: Layer, id: u32, offset: u32) -> Fault
         ensures { result ≡ missing layer id offset }

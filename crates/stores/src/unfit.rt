@@ -16,7 +16,7 @@ pub enum Unfit {
 }
 
 impl Unfit {
-    // By a number, since the C interface tells refusals by numbers.
+    // No `From`: a refusal has a number, and is none.
     /// The refusal's number.
     pub fn number(self) -> u32
         ensures { result ≡ unfit_number self }

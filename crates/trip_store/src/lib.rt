@@ -33,11 +33,12 @@ impl<S> TripStore<S> {
         }
     }
 
+    // Each wrapper's own, as of any wrapper: a trait for both would say no more.
     /// The store below.
     pub fn into_inner(self) -> S
         ensures { result ≡ self.inner }
     {
-        let TripStore { inner, left: _ } = self;
+        let TripStore { inner, .. } = self;
         inner
     }
 }
