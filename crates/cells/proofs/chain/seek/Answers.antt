@@ -19,11 +19,11 @@ returns-then-is_some_and g c =
     (λ some. found g.K.PartialEq.eq g.K.Key.hashed g.met.K.Key.agrees _ _ _ _ _ _ c.loop-link.invariant c.in-Some.is c.index-cells-at.is some.1 (search rules))
     (which c.index-cells-at.result.entry)
 
-pub loop-link-smaller : goal.loop-link-smaller
-loop-link-smaller g c = (passed_next g.K.PartialEq.eq g.K.Key.hashed g.met.K.Key.agrees _ _ _ _ _ c.requires (omega arith) c.loop-link.invariant c.in-Some.is c.index-cells-at.is (λ x e. search rules)).1
-
 pub loop-link-preserved : goal.loop-link-preserved
 loop-link-preserved g c = (passed_next g.K.PartialEq.eq g.K.Key.hashed g.met.K.Key.agrees _ _ _ _ _ c.requires (omega arith) c.loop-link.invariant c.in-Some.is c.index-cells-at.is (λ x e. search rules)).0
+
+pub loop-link-smaller : goal.loop-link-smaller
+loop-link-smaller g c = (passed_next g.K.PartialEq.eq g.K.Key.hashed g.met.K.Key.agrees _ _ _ _ _ c.requires (omega arith) c.loop-link.invariant c.in-Some.is c.index-cells-at.is (λ x e. search rules)).1
 
 pub returns : goal.returns
 returns g c = passed_all g.K.PartialEq.eq g.K.Key.hashed g.met.K.Key.agrees _ _ _ (omega arith) c.loop-link.invariant c.in_default.is
