@@ -7,7 +7,7 @@ use crate::key::Key;
 use names::key::NameKey;
 
 /// A name below a storage, as a key: the storage's number and the name's key.
-#[derive(Clone, Copy, PartialEq, Eq)]
+#[derive(Clone, Copy, Debug, PartialEq, Eq)]
 pub struct ChildKey {
     pub parent: u32,
     pub name: NameKey,
