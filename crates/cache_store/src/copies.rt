@@ -57,9 +57,7 @@ impl Copies {
         requires bytes_bound { offset + length bytes.now ≤ 128 }
         ensures { self.new.kept.items ≡ patched self.old.kept.items place offset bytes.now }
     {
-        let mut copied = self.kept[place];
-        copied.patch(offset, bytes);
-        self.kept[place] = copied;
+        self.kept[place].patch(offset, bytes);
     }
 
     /// Forgets the copies of records that are not there. They keep their places.
@@ -70,6 +68,8 @@ impl Copies {
     }
 }
 
+// A function of the slice: what a loop writes through a list's own iterator is not known afterwards.
+/// Forgets the copies of records that are not there.
 fn forget_each(copies: &mut [Copied], count: u32)
     ensures { copies.new ≡ map (forgotten count) copies.old }
 {

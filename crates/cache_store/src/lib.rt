@@ -38,7 +38,7 @@ impl<S> CacheStore<S> {
         }
     }
 
-    // Each wrapper's own, as of any wrapper: a trait for both would say no more.
+    // A twin by nature in each wrapper: each gives a field of its own type.
     /// The store below.
     pub fn into_inner(self) -> S
         ensures { result ≡ self.inner }
@@ -48,6 +48,7 @@ impl<S> CacheStore<S> {
     }
 }
 
+// A call with clauses of its own repeats those of the trait, which they would replace.
 impl<S: RecordStore> RecordStore for CacheStore<S> {
     type Slip = S::Slip;
 

@@ -10,6 +10,7 @@
 -- Blank        a map without keys
 -- with_key     the number of keys after a key is put, by what was under it
 -- without_key  the number of keys after a key is dropped, by what was under it
+-- Fresh        a table holds no key
 -- Inserted     what an accepted insertion leaves
 -- Refused      when an insertion is refused, and what that leaves
 -- Empty        every cell is empty
@@ -62,6 +63,10 @@ module _ {K : Type 0} {hashing : Hashing.Ghosts K} {equality : Equality.Ghosts K
 
   unfoldable pub lookup : Table K hashing equality → K → Option ℕ
   lookup t k = value_in equality.eq (held (cells_of t)) k
+
+  pub record Fresh (t : Table K hashing equality) : Type 0 where
+    pub blank : Blank (lookup t)
+    pub count : t.count ≡ 0
 
   pub record Inserted (old new : Table K hashing equality) (key : K) (value : ℕ) : Type 0 where
     pub puts : Puts equality.eq (lookup old) (lookup new) key value

@@ -12,6 +12,7 @@ pub(crate) struct Entry<K> {
 #[derive(Clone, Copy)]
 pub struct Cell<K> {
     pub(crate) entry: Option<Entry<K>>,
+    // Fixed memory: the cells are lent, so a chain is linked by their numbers.
     /// The next cell of this entry's chain.
     pub(crate) next: Option<usize>,
     /// The first cell of the chain of the bucket that has this cell's number.

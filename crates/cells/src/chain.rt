@@ -7,8 +7,8 @@ ghost use Rattle.cells.specs.Chains.{held, valued, revalued, without, Kept, Hold
 use crate::cell::{Cell, Entry};
 use keys::key::Key;
 
-// Functions over lent cells, each of which asks that they are chained. A type of chained cells, held by a table, would
-// hide from the table's caller what stands in the cells afterwards.
+// Functions over lent cells: they run between two sound states of a table, so what they keep is less than its invariant.
+// A type of chained cells was tried: once a table of them is let go, its caller no longer knows what stands in the cells.
 
 /// The cell that holds a key the same as this one.
 pub(crate) fn seek<K: Key + Copy>(cells: &[Cell<K>], key: &K) -> Option<usize>
@@ -21,7 +21,7 @@ pub(crate) fn seek<K: Key + Copy>(cells: &[Cell<K>], key: &K) -> Option<usize>
         return None;
     }
     let bucket = key.hash() as usize % cells.len();
-    // A loop over links and no iterator, since its measure is the place in the slice, which an iterator would hide.
+    // A loop over links, and no iterator, which would hide its measure, the place in the slice.
     let mut link = cells[bucket].head;
     while let Some(at) = link {
         let cell = cells[at];
@@ -55,7 +55,7 @@ fn find_gap<K: Key + Copy>(cells: &[Cell<K>], bucket: usize, f: usize) -> Gap
     requires bucket { bucket < length cells.now }
     ensures { Between K.hashed cells.now bucket f result.before result.after }
 {
-    // A loop, as in `seek`: a walk with an iterator would leave out why it ends.
+    // A loop over links, and no iterator, which would hide its measure, the place in the slice.
     let mut before = None;
     let mut after = cells[bucket].head;
     while let Some(at) = after

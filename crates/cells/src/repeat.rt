@@ -1,5 +1,5 @@
 ghost use Rattle.std.specs.Prelude.{◌≡◌, ◌<◌, ◌≤◌, length, MatchOption, MatchResult};
-ghost use Rattle.cells.specs.Maps.{size_of, lookup, Blank, Empty, SameCells};
+ghost use Rattle.cells.specs.Maps.{size_of, Fresh, Empty, SameCells};
 ghost use Rattle.cells.specs.Repeats.{Distinct, FirstRepeat};
 
 use crate::cell::Cell;
@@ -29,8 +29,7 @@ pub fn find_repeat(
 
 /// Puts the numbers into an empty table, up to the first that is there already.
 fn first_repeat(table: &mut Table<SectorNumber>, numbers: &[u32]) -> Option<usize>
-    requires blank { Blank (lookup table.old) }
-    requires count { table.old.count ≡ 0 }
+    requires fresh { Fresh table.old }
     requires room { length numbers.now ≤ size_of table.old }
     ensures cells { SameCells table.old.cells table.new.cells }
     ensures place { MatchOption result (Distinct numbers.now) (FirstRepeat numbers.now) }

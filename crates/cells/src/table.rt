@@ -16,14 +16,14 @@ pub struct Table<'a, K: Key> {
 }
 
 impl<'a, K: Key + Copy> Table<'a, K> {
+    // Here and not above, since these words name the table.
     ghost use Rattle.std.specs.Prelude.{◌≡◌};
-    ghost use Rattle.cells.specs.Maps.{cells_of, SameCells, lookup, Blank, Empty};
+    ghost use Rattle.cells.specs.Maps.{cells_of, SameCells, Fresh, Empty};
 
     /// A table without keys; the cells are emptied.
     pub fn new(cells: &'a mut [Cell<K>]) -> Table<'a, K>
         ensures cells { SameCells cells.entry result.cells }
-        ensures blank { Blank (lookup result) }
-        ensures count { result.count ≡ 0 }
+        ensures fresh { Fresh result }
         ensures empty { Empty (cells_of result) }
     {
         cells.fill(Cell::empty());

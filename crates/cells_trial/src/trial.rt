@@ -82,6 +82,7 @@ impl Trial<'_> {
 
     /// One call of a kind that `pick` chooses: half of them are insertions, so that the table fills.
     fn call(&mut self, pick: u32, key: u32, value: u32) -> Result<(), AllocError> {
+        // A draw, and not a kind that anyone else names.
         match pick % 4 {
             0 => self.find(key),
             1 => self.remove(key),

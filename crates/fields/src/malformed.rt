@@ -40,7 +40,7 @@ pub enum Flaw {
 }
 
 impl Flaw {
-    // No `From`: a flaw has a number and an offset, and is neither.
+    // A method and no `From`: the number names a flaw, and does not hold it.
     /// The refusal's number.
     pub fn number(self) -> u16
         ensures { result ≡ flaw_number self }
@@ -91,7 +91,7 @@ pub struct Malformed {
 }
 
 impl Malformed {
-    // No `From`, as for `Flaw`.
+    // A method and no `From`: the number names a refusal, and does not hold it.
     /// The refusal's number.
     pub fn number(self) -> u16
         ensures { result ≡ refusal_number self }

@@ -16,6 +16,7 @@ pub enum ObjType {
 }
 
 impl ObjType {
+    // One for each type, named as callers ask.
     pub fn is_storage(self) -> bool
         ensures { result ≡ is_storage self }
     {

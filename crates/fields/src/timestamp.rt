@@ -9,6 +9,7 @@ use crate::consts;
 pub struct Timestamp(pub u64);
 
 impl Timestamp {
+    // Zero and no `Option`, as in the record.
     /// No time.
     pub fn zero() -> Timestamp
         ensures { result.0 ≡ 0 }

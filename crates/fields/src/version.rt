@@ -19,7 +19,7 @@ pub enum Version {
 pub struct UnknownVersion(pub u16);
 
 impl Version {
-    // A table for each number: what differs by version stands beside its unit.
+    // One table for each number, under the line that gives its unit.
     /// The length of a sector, in bytes.
     pub fn sector_len(self) -> usize
         ensures { result ≡ sector_length self }

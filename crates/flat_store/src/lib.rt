@@ -49,7 +49,7 @@ impl<'a> FlatStore<'a> {
 }
 
 impl FlatStore<'_> {
-    // By `&self`: bytes that are lent through a `&mut self` are not known to stand afterwards.
+    // `&self`, and a function of its own: bytes that are lent through a `&mut self` are not known to stand afterwards.
     /// Copies a record out.
     fn copy_record(&self, number: u32, into: &mut [u8; DIR_ENTRY_LEN])
         requires { number < self.now.count }

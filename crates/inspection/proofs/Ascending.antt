@@ -8,7 +8,7 @@ use Rattle.std.proofs.lemmas.List.Edits.{get_or-insert_at, get_or-insert_below, 
 use Rattle.names.specs.declared.name.Name.{Name}
 use Rattle.names.specs.Keys.{key_of}
 use Rattle.names.specs.Order.{order, compared, OneOf, Precedes, Ordered}
-use Rattle.inspection.specs.Listings.{Ascends, Stands, Parts}
+use Rattle.inspection.specs.Listings.{Ascends, HasAt, Splits}
 
 less_tells : (fold : ℕ → ℕ) (a b : List ℕ) → Ordered fold → compared fold a b ≡ Less → Precedes fold a b
 less_tells fold a b o e = subst (λ r. MatchOrdering r (Precedes fold a b) (key_of fold a ≡ key_of fold b) (Precedes fold b a)) e (o.told a b)
@@ -55,12 +55,12 @@ rises fold ns us o up i j d le lt = by_place (cases_order i j)
     by_place (inr (inr g)) = absurd (omega arith)
 
 -- what a search by halves answers, among names that ascend
-pub searched : (fold : ℕ → ℕ) (ns : List Name) (us : List ℕ) (r : Result ℕ ℕ) → Ordered fold → Ascends fold ns → IsBinarySearchResult (λ n. compared fold n us) ns r → MatchResult r (Stands fold ns us) (Parts fold ns us)
+pub searched : (fold : ℕ → ℕ) (ns : List Name) (us : List ℕ) (r : Result ℕ ℕ) → Ordered fold → Ascends fold ns → IsBinarySearchResult (λ n. compared fold n us) ns r → MatchResult r (HasAt fold ns us) (Splits fold ns us)
 searched fold ns us (Ok i) o up h = h
 searched fold ns us (Err i) o up h = let parts = h (rises fold ns us o up) in (λ k d l. parts.0 k d (omega arith) l, parts.1)
 
 -- a name that is entered where it parts the others
-pub entered_ascends : (fold : ℕ → ℕ) (ns : List Name) (p : ℕ) (n : Name) → Ordered fold → Ascends fold ns → p ≤ length ns → Parts fold ns n p → Ascends fold (insert ns p n)
+pub entered_ascends : (fold : ℕ → ℕ) (ns : List Name) (p : ℕ) (n : Name) → Ordered fold → Ascends fold ns → p ≤ length ns → Splits fold ns n p → Ascends fold (insert ns p n)
 entered_ascends fold ns p n o up at parts i j d lt within = by_places (cases_order i p) (cases_order j p)
   where
     new : List Name

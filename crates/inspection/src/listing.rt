@@ -1,6 +1,6 @@
 //! Names kept in directory order.
 ghost use Rattle.std.specs.Prelude.{◌≡◌, ◌<◌, ◌≤◌, [], length, MatchOption, MatchResult};
-ghost use Rattle.inspection.specs.Listings.{Ascends, Stands, Parts, Enters, Keeps};
+ghost use Rattle.inspection.specs.Listings.{Ascends, HasAt, Splits, Enters, Keeps};
 
 use names::folding::Folding;
 use names::name::Name;
@@ -67,7 +67,7 @@ impl<F: Folding> Listing<F> {
 fn place_of<F: Folding>(folding: &F, names: &[Name], units: &[u16]) -> Result<usize, usize>
     requires { Ascends (F.folds folding.now) names.now }
     ensures within { MatchResult result (λ i. i < length names.now) (λ i. i ≤ length names.now) }
-    ensures place { MatchResult result (Stands (F.folds folding.now) names.now units.now) (Parts (F.folds folding.now) names.now units.now) }
+    ensures place { MatchResult result (HasAt (F.folds folding.now) names.now units.now) (Splits (F.folds folding.now) names.now units.now) }
 {
     names_are_ordered(folding);
     names.binary_search_by(|held| compare_names(folding, held.units(), units))

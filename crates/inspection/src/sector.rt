@@ -82,9 +82,9 @@ impl fmt::Display for Row {
         let entry = &self.0;
         let kind = kind_of(entry.obj_type);
         let color = color_of(entry.color);
-        let left = Link(entry.left_sibling);
-        let right = Link(entry.right_sibling);
-        let child = Link(entry.child);
+        let left = ShownLink(entry.left_sibling);
+        let right = ShownLink(entry.right_sibling);
+        let child = ShownLink(entry.child);
         write!(f, "{kind:<7}  {color:<5}  {left} {right} {child}  ")?;
         let name = Text(entry.name.units());
         let state = entry.state_bits;
@@ -101,9 +101,9 @@ impl fmt::Display for Row {
 
 /// A link as a table shows it.
 #[derive(Clone, Copy)]
-struct Link(u32);
+struct ShownLink(u32);
 
-impl fmt::Display for Link {
+impl fmt::Display for ShownLink {
     fn fmt<W: fmt::Write>(&self, f: &mut fmt::Formatter<W>) -> fmt::Result {
         let number = self.0;
         if number == NO_STREAM {

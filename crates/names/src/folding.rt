@@ -59,6 +59,7 @@ impl Folding for TableFolding<'_> {
     }
 }
 
+// No `u8::to_ascii_uppercase`: any code is asked for, and most are no byte.
 fn ascii_upper(code: u32) -> u32
     ensures { result ≡ ascii_upper code }
 {

@@ -9,7 +9,7 @@ use crate::name::{MAX_NAME_LEN, Name};
 use crate::utf16::code_points;
 
 /// A name's key, in place. Two names are the same name of a directory exactly when their keys are equal.
-// Fixed memory: a key lies in the caller's cell, so its codes are an array with a count.
+// Fixed memory, and `Copy`, which an `ArrayVec` is not: a key lies in the cells that a caller lends.
 #[derive(Debug, Clone, Copy)]
 pub struct NameKey {
     pub unit_count: u8,

@@ -9,7 +9,7 @@ use std::marker::Model;
 pub const MAX_NAME_LEN: usize = 31;
 
 /// A name of a storage or a stream: up to 31 units, counted, in place.
-// Fixed memory: a name lies in the slots that a caller lends, so its units are an array with a count.
+// Fixed memory, and `Copy`, which an `ArrayVec` is not: a name lies in the slots that a caller lends.
 #[derive(Debug, Clone, Copy, PartialEq, Eq)]
 pub struct Name {
     len: u8,
@@ -43,7 +43,7 @@ pub enum NameError {
 }
 
 impl NameError {
-    // No `From`: a refusal has a number, and is none.
+    // A method and no `From`: the number names a refusal, and does not hold it.
     /// The refusal's number.
     pub fn number(self) -> u16
         ensures { result ≡ name_number self }

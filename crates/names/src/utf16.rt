@@ -5,6 +5,7 @@ ghost use Rattle.names.specs.Units.{high, low, surrogate, joined, codes, well_fo
 
 /// The code points of some units, from the front. A surrogate that stands by itself is handed out as it is:
 /// `is_well_formed` tells whether there is one.
+// No `char::decode_utf16`, whose contract does not name the list of code points that is left.
 #[derive(Debug, Clone, Copy)]
 pub struct CodePoints<'a> {
     units: &'a [u16],
@@ -15,6 +16,15 @@ pub fn code_points(units: &[u16]) -> CodePoints<'_>
     ensures { result.units.now ≡ units.now }
 {
     CodePoints { units }
+}
+
+impl<'a> CodePoints<'a> {
+    /// The units of the code points that are left.
+    pub fn units(&self) -> &'a [u16]
+        ensures { result.now ≡ self.now.units.now }
+    {
+        self.units
+    }
 }
 
 impl Iterator for CodePoints<'_> {

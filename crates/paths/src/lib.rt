@@ -51,7 +51,7 @@ pub enum Component {
 }
 
 /// The names of a path from the root down, as parts of the caller's units.
-// Fixed memory: there is no heap, so the names are an array with a count.
+// Fixed memory, and `Copy`, which an `ArrayVec` is not. No `==`, which would compare what lies behind the count.
 #[derive(Debug, Clone, Copy)]
 pub struct NameChain<'a> {
     names: [Part<'a>; MAX_NAMES],

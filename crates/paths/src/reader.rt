@@ -12,7 +12,7 @@ const SEPARATOR: u16 = b'/' as u16;
 const DOT: u16 = b'.' as u16;
 
 impl PathError {
-    // No `From`: a refusal has a number, and is none.
+    // A method and no `From`: the number names a refusal, and does not hold it.
     /// The refusal's number.
     pub fn number(self) -> u16
         ensures { result ≡ path_number self }

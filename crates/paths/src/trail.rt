@@ -6,7 +6,7 @@ ghost use Rattle.paths.specs.Trails.{entered, shortened};
 use crate::{MAX_NAMES, Part, PathError};
 
 /// The names met so far and not taken away, while there are at most 64 of them.
-// Fixed memory: there is no heap, so the names are an array with a count.
+// Fixed memory: the array becomes the chain's, and the count may pass its length, as that of an `ArrayVec` can't.
 #[derive(Clone, Copy)]
 pub(super) struct Trail<'a> {
     pub(super) names: [Part<'a>; MAX_NAMES],

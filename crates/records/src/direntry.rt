@@ -19,7 +19,7 @@ use fields::version::Version;
 use names::name::Name;
 
 /// An entry of a directory: what a record means.
-// Numbers for none (NO_STREAM, END_OF_CHAIN, zeros) stand as in the record, so that one record has one entry.
+// Numbers for none (NO_STREAM, END_OF_CHAIN, zeros) and no Option, so that two entries never have one record.
 #[derive(Debug, Clone, Copy, PartialEq, Eq)]
 pub struct DirEntry {
     pub name: Name,

@@ -90,6 +90,7 @@ pub fn name_field(name: &Name) -> [u8; consts::NAME_FIELD_LEN]
     ensures { result ≡ name_bytes name.now }
 {
     let mut field = [0; consts::NAME_FIELD_LEN];
+    // By their places: what is written through chunks is not known afterwards.
     for (i, unit) in name.units().iter().enumerate() {
         put(&mut field, 2 * i, &unit.to_le_bytes());
     }

@@ -90,6 +90,7 @@ impl Reader<'_> {
         }
     }
 
+    // The type is a parameter of its own, since it is known only when the head was read.
     /// A stream has no child.
     fn child(&self, obj_type: ObjType) -> Result<u32, Flaw>
         ensures { result ≡ child_step self.now.bytes.now obj_type }
@@ -171,6 +172,7 @@ impl Reader<'_> {
         let links = self.links(head.obj_type)?;
         let stamps = self.stamps(head.obj_type)?;
         let place = self.place(head.obj_type)?;
+        // An array is not taken from a field straight into a literal.
         let clsid = stamps.clsid;
         Ok(DirEntry {
             name: head.name,

@@ -7,6 +7,7 @@ use crate::direntry::DirEntry;
 use fields::consts;
 use fields::consts::DIR_ENTRY_LEN;
 
+// Each write says what stands before its end then, so that none has to say what it leaves alone.
 impl DirEntry {
     /// The length counts the null after the name, too.
     pub(crate) fn put_head(&self, bytes: &mut [u8; DIR_ENTRY_LEN])

@@ -85,6 +85,7 @@ fn units(heap: Global, word: &str) -> anyhow::Result<Vec<u16>> {
 
 /// The names that a path leaves, or none where it is refused.
 fn names(heap: Global, words: Split<'_, char>) -> anyhow::Result<Option<Vec<Vec<u16>>>> {
+    // A loop, since a unit that is no hex ends it with an error.
     let mut names = Vec::new(heap);
     for word in words {
         if word == "refused" {

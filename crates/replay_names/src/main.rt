@@ -12,6 +12,7 @@ use tally::Tally;
 
 /// Whether the port answers a case as it was recorded, under the folding that was chosen last.
 fn agrees(case: &Case, under: Under, pairs: &[(u32, u32)]) -> bool {
+    // A match: the two foldings are of two types.
     match under {
         Under::Ascii => case.agrees(&AsciiFolding),
         Under::Table => case.agrees(&TableFolding::new(pairs)),

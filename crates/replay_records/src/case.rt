@@ -8,6 +8,7 @@ use fields::version::Version;
 use hex::FromHex;
 use records::direntry::DirEntry;
 use std::alloc::{AllocError, Global};
+use std::str::Split;
 
 type Record = [u8; DIR_ENTRY_LEN];
 
@@ -29,9 +30,9 @@ pub fn agrees(heap: Global, id: u32, line: &str) -> anyhow::Result<bool> {
 /// Whether the port gives the answers for the 255 records with another value in one byte: `RECORD BYTE DIGEST`.
 pub fn agrees_on_every(heap: Global, line: &str) -> anyhow::Result<bool> {
     let mut words = line.split(' ');
-    let record = Record::from_hex(words.next().unwrap_or(""))?;
-    let at = words.next().unwrap_or("").parse::<usize>()?;
-    let told = u64::from_str_radix(words.next().unwrap_or(""), 16)?;
+    let record = Record::from_hex(next(&mut words)?)?;
+    let at = next(&mut words)?.parse::<usize>()?;
+    let told = u64::from_str_radix(next(&mut words)?, 16)?;
     ensure!(at < record.len(), "a byte outside the record");
     let mut digest = Digest::new();
     for value in 0..=u8::MAX {
@@ -42,6 +43,10 @@ pub fn agrees_on_every(heap: Global, line: &str) -> anyhow::Result<bool> {
         }
     }
     Ok(digest.0 == told)
+}
+
+fn next<'a>(words: &mut Split<'a, char>) -> anyhow::Result<&'a str> {
+    words.next().context("a line that is too short")
 }
 
 /// A digest of lines: FNV-1a, 64 bits.

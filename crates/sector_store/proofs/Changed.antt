@@ -1,5 +1,5 @@
 -- What a store of sectors means after a write, a growth and a post, and what lies beside it.
-use Rattle.std.proofs.Common.{◌≡◌, ℕ, ◌+◌, ◌-◌, ◌*◌, ◌/◌, ◌%◌, ◌^◌, ◌<◌, ◌≤◌, true, false, cond, ltb, leb, List, [], ◌++◌, length, get_or, take, drop, replicate, Some, None, Option, Ok, Err, Result, sym, refl, ap, ◌∙◌, div-add-mod', arith, lt-ltb, le-leb, ⊎_elim}
+use Rattle.std.proofs.Common.{Bool, ◌≡◌, ℕ, ◌+◌, ◌-◌, ◌*◌, ◌/◌, ◌%◌, ◌^◌, ◌<◌, ◌≤◌, true, false, cond, ltb, leb, List, [], ◌++◌, length, get_or, take, drop, replicate, Some, None, Option, Ok, Err, Result, sym, refl, ap, ◌∙◌, div-add-mod', arith, lt-ltb, le-leb, ⊎_elim}
 use lib.Seq.{paste}
 use Rattle.std.proofs.lemmas.Bool.{cases_lt, lt-leb}
 use Rattle.std.specs.Option.{option_map}
@@ -9,11 +9,12 @@ use Rattle.fields.specs.Versions.{sector_length, records_per_sector}
 use Rattle.records.specs.Bytes.{number, bytes_of, u32_at}
 use Rattle.records.proofs.NumbersBack.{number_bytes}
 use Rattle.stores.specs.declared.unfit.Unfit.{Unfit}
+use Rattle.stores.specs.declared.unfit.Unfit.TheVariants.{BadCount}
 use Rattle.stores.specs.Meaning.{with_bytes, with_growth, with_count, growths_held, freed}
 use Rattle.stores.specs.Places.{record_at, records_at, Apart}
 use Rattle.stores.proofs.Pasted.{length_pasted, part_before, part_here}
 use Rattle.stores.proofs.Placed.{get_or-records_at, written_records, outside_stands, records_behind}
-use Rattle.sector_store.specs.Sectors.{start, place, count_place, count_at, sectored, covered, sector_beside, filled, Laid}
+use Rattle.sector_store.specs.Sectors.{start, place, count_place, count_of, sectored, covered, sector_beside, filled, Laid}
 use Rattle.sector_store.proofs.ListedSectors.{apart, behind_header, covered_sector, in_its_sector}
 use Rattle.sector_store.specs.Wholes.{sector_below, used_room, fit_used, length-sectored}
 use Rattle.sector_store.proofs.Filled.{length-filled, filled_records, outside-filled, part_before_filled}
@@ -39,8 +40,18 @@ pub index_listed : (v : Version) (n : ℕ) (ss : List ℕ) (u r k : ℕ) → Lai
 index_listed v n ss u r k l h = omega (arith, sector_below v k u h, l.few, l.listed)
 
 -- a count is kept where the header keeps it
-abbrev count_of : Version → List ℕ → Option ℕ
-count_of v bs = count_at (count_place v (length bs)) bs
+abbrev count_at : Result (Option ℕ) Unfit → List ℕ → Option ℕ
+count_at (Ok (Some p)) bs = Some (u32_at bs p)
+count_at (Ok None) bs = None
+count_at (Err e) bs = None
+
+pub counted_at : (v : Version) (bs : List ℕ) → count_of v bs ≡ count_at (count_place v (length bs)) bs
+counted_at V3 bs = refl
+counted_at V4 bs = by_room (leb 44 (length bs))
+  where
+    by_room : (b : Bool) → cond b (Some (u32_at bs 40)) None ≡ count_at (cond b (Ok (Some 40)) (Err BadCount)) bs
+    by_room true = refl
+    by_room false = refl
 
 pub count_within : (v : Version) (n p : ℕ) → count_place v n ≡ Ok (Some p) → (p ≡ 40) × (44 ≤ n)
 count_within V3 n p e = absurd cc
@@ -51,7 +62,7 @@ count_within V4 n p e = ⊎_elim
 
 -- the count stands where what is written lies behind it
 same_count : (v : Version) (bs bs' : List ℕ) → length bs' ≡ length bs → take 4 (drop 40 bs') ≡ take 4 (drop 40 bs) → count_of v bs' ≡ count_of v bs
-same_count v bs bs' l e = rw l (same (count_place v (length bs)) refl)
+same_count v bs bs' l e = counted_at v bs' ∙ rw l (same (count_place v (length bs)) refl) ∙ sym (counted_at v bs)
   where
     same : (r : Result (Option ℕ) Unfit) → count_place v (length bs) ≡ r → count_at r bs' ≡ count_at r bs
     same (Ok (Some p)) h = let q = (count_within v (length bs) p h).0 in rw q (ap (λ (xs : List ℕ). Some (number xs)) e)
@@ -161,8 +172,8 @@ sector_posted v bs ss cs u r p l hc hu e =
     let rs = records_behind bs cs (place v ss) (u * records_per_sector v) p (fit_used v (length bs) ss u r l) hp (λ k hk. omega (arith, lc, w.0, behind_header v ss k)) in
     let here : u32_at (paste bs p cs (length cs)) p ≡ u
     = ap (λ (n : ℕ). number (take n (drop p (paste bs p cs (length cs))))) (sym lc) ∙ ap number (part_here bs cs p hp ∙ e) ∙ number_bytes 4 u hu in
-    let c : count_of v (paste bs p cs (length cs)) ≡ Some u = rw (ln, hc) (ap (λ (n : ℕ). Some n) here) in
-    let c' : option_map (λ _. growths_held (sectored v bs ss u r)) (count_of v bs) ≡ Some u = rw hc (ap (λ (n : ℕ). Some n) (held v bs ss u r)) in
+    let c : count_of v (paste bs p cs (length cs)) ≡ Some u = counted_at v (paste bs p cs (length cs)) ∙ rw (ln, hc) (ap (λ (n : ℕ). Some n) here) in
+    let c' : option_map (λ _. growths_held (sectored v bs ss u r)) (count_of v bs) ≡ Some u = ap (option_map (λ _. growths_held (sectored v bs ss u r))) (counted_at v bs) ∙ rw hc (ap (λ (n : ℕ). Some n) (held v bs ss u r)) in
     ap (λ (x : List (List ℕ)). record { version = v; records = x; growth = records_per_sector v; left = r - u; posted = count_of v (paste bs p cs (length cs)) }) rs
     ∙ ap (λ (x : Option ℕ). record { version = v; records = records_at bs (place v ss) (u * records_per_sector v); growth = records_per_sector v; left = r - u; posted = x }) (c ∙ sym c')
 

@@ -5,7 +5,7 @@
 --   Inside v n ss i          the sector at place i of the list lies in n bytes
 --   room_for v ss            how many of the listed sectors can be used: every record in them has a number
 --   count_place v n          where a file of n bytes keeps a count: in version 4, and refused if its header is shorter
---   count_at r bs            the count, where one is kept
+--   count_of v bs            the count, where one is kept: by version 4, if its header has the place for it
 --   sectored v bs ss u r     what the store means of which u sectors are in use and r can be
 --   covered v ss i           the place i lies in a listed sector, or in the count
 --   sector_beside l v bs ss  what lies beside it: the lender, the list, and the bytes in no listed sector and not in the count
@@ -38,13 +38,12 @@ abbrev pub count_place : Version → ℕ → Result (Option ℕ) Unfit
 count_place V3 n = Ok None
 count_place V4 n = (if nat_le 44 n then Ok (Some 40) else Err BadCount)
 
-abbrev pub count_at : Result (Option ℕ) Unfit → List ℕ → Option ℕ
-count_at (Ok (Some p)) bs = Some (u32_at bs p)
-count_at (Ok None) bs = None
-count_at (Err e) bs = None
+abbrev pub count_of : Version → List ℕ → Option ℕ
+count_of V3 bs = None
+count_of V4 bs = (if nat_le 44 (length bs) then Some (u32_at bs 40) else None)
 
 abbrev pub sectored : Version → List ℕ → List ℕ → ℕ → ℕ → Meaning
-sectored v bs ss u r = record { version = v; records = records_at bs (place v ss) (u * records_per_sector v); growth = records_per_sector v; left = r - u; posted = count_at (count_place v (length bs)) bs }
+sectored v bs ss u r = record { version = v; records = records_at bs (place v ss) (u * records_per_sector v); growth = records_per_sector v; left = r - u; posted = count_of v bs }
 
 abbrev pub in_sector : ℕ → ℕ → ℕ → Bool
 in_sector n s i = cond (nat_le ((s + 1) * n) i) (nat_lt i ((s + 2) * n)) false

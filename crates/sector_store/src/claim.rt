@@ -66,6 +66,7 @@ impl SectorStore<'_> {
             × Surveyed self.now.version (length self.now.bytes.now) self.now.sectors.now)
             (λ e. Unfitting self.now.version (length self.now.bytes.now) self.now.sectors.now (length cells.old) e) }
     {
+        // No `map_err`: a closure would stand between the refusal and what is told of it.
         let Ok(repeated) = find_repeat(cells, self.sectors) else {
             return Err(Unfit::FewCells);
         };

@@ -45,7 +45,7 @@ impl SectorStore<'_> {
         self.start(number / per_sector) + number % per_sector * DIR_ENTRY_LEN
     }
 
-    // By `&self`: bytes that are lent through a `&mut self` are not known to stand afterwards.
+    // `&self`, and a function of its own: bytes that are lent through a `&mut self` are not known to stand afterwards.
     /// Copies the record that begins at a place out.
     pub(crate) fn copy_record(&self, at: usize, into: &mut [u8; DIR_ENTRY_LEN])
         requires { at + 128 ≤ length self.now.bytes.now }
@@ -55,7 +55,7 @@ impl SectorStore<'_> {
     }
 }
 
-// By the place of each: what is written through `chunks_exact_mut` is not known afterwards.
+// A loop over the places: what is written through `chunks_exact_mut` is not known afterwards.
 /// Writes so many freed records end to end, from a place on.
 pub(crate) fn fill_with_freed(bytes: &mut [u8], at: usize, count: usize)
     requires { at + count * 128 ≤ length bytes.old }

@@ -26,7 +26,7 @@ pub fn copy_out(bytes: &[u8], at: usize, into: &mut [u8; DIR_ENTRY_LEN])
     }
 }
 
-// By a test and a range: what is written through `get_mut` is not known afterwards.
+// A test and a range, and no `get_mut`: what is written through it is not known afterwards.
 /// Copies bytes over others from a place on, where there are enough of them.
 pub fn copy_in(bytes: &mut [u8], at: usize, from: &[u8])
     ensures copied { at + length from.now ≤ length bytes.old → bytes.new ≡ paste bytes.old at from.now (length from.now) }

@@ -16,7 +16,7 @@ pub enum Layer {
 }
 
 impl Layer {
-    // No `From`: a layer has a number, and is none.
+    // A method and no `From`: the number names a layer, and does not hold it.
     /// The layer's number.
     pub fn number(self) -> u32
         ensures { result ≡ layer_number self }
@@ -40,7 +40,7 @@ pub enum Cause {
 }
 
 impl Cause {
-    // No `From`: a cause has a number, and is none.
+    // A method and no `From`: the number names a cause, and does not hold it.
     /// The cause's number.
     pub fn number(self) -> u32
         ensures { result ≡ cause_number self }
@@ -52,7 +52,7 @@ impl Cause {
     }
 }
 
-// No `Option` of a place: every fault is told by four numbers, and a growth's and a post's are zeros.
+// Zeros and no `Option` where there is no record: the call that failed says so, and a fault stays four plain numbers.
 /// What a store call failed with. A growth and a post have no record of their own: their number and offset are 0.
 #[derive(Debug, Clone, Copy, PartialEq, Eq)]
 pub struct Fault {

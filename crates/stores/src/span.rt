@@ -5,6 +5,7 @@ ghost use Rattle.stores.specs.Faults.{missing, all_of};
 use crate::fault::{Fault, Layer};
 use fields::consts::DIR_ENTRY_LEN;
 
+// Made by the names of its fields: all three are numbers, which the arguments of a call could mix up.
 /// So many bytes of a record, from an offset on.
 #[derive(Debug, Clone, Copy, PartialEq, Eq)]
 pub struct Span {

@@ -16,7 +16,7 @@ pub enum Unfit {
 }
 
 impl Unfit {
-    // No `From`: a refusal has a number, and is none.
+    // A method and no `From`: the number names a refusal, and does not hold it.
     /// The refusal's number.
     pub fn number(self) -> u32
         ensures { result ≡ unfit_number self }

@@ -33,7 +33,7 @@ impl<S> TripStore<S> {
         }
     }
 
-    // Each wrapper's own, as of any wrapper: a trait for both would say no more.
+    // A twin by nature in each wrapper: each gives a field of its own type.
     /// The store below.
     pub fn into_inner(self) -> S
         ensures { result ≡ self.inner }
@@ -43,6 +43,7 @@ impl<S> TripStore<S> {
     }
 }
 
+// A call with clauses of its own repeats those of the trait, which they would replace.
 impl<S: RecordStore> RecordStore for TripStore<S> {
     type Slip = S::Slip;
 

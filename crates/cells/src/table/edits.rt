@@ -1,5 +1,5 @@
 ghost use Rattle.std.specs.Prelude.{◌≡◌, MatchResult};
-ghost use Rattle.cells.specs.Maps.{cells_of, lookup, Drops, Blank, without_key, Inserted, Refused, Empty, SameCells};
+ghost use Rattle.cells.specs.Maps.{cells_of, lookup, Drops, Fresh, without_key, Inserted, Refused, Empty, SameCells};
 
 use super::Table;
 use crate::cell::{Cell, Entry};
@@ -46,8 +46,7 @@ impl<K: Key + Copy> Table<'_, K> {
     /// Takes every key out.
     pub fn clear(&mut self)
         ensures cells { SameCells self.old.cells self.new.cells }
-        ensures blank { Blank (lookup self.new) }
-        ensures count { self.new.count ≡ 0 }
+        ensures fresh { Fresh self.new }
         ensures empty { Empty (cells_of self.new) }
     {
         self.cells.fill(Cell::empty());

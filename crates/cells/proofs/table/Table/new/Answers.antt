@@ -1,4 +1,4 @@
-use Rattle.std.proofs.Common.{rules}
+use Rattle.std.proofs.Common.{rules, refl}
 use Rattle.cells.specs.Maps.{lookup, Empty}
 use Rattle.cells.proofs.Tables.{empty_rules, empty_blank}
 use Rattle.cells.proofs.table.Table.new.Goals as goal
@@ -6,6 +6,6 @@ use Rattle.cells.proofs.table.Table.new.Goals as goal
 pub invariant_of-result : goal.invariant_of-result
 invariant_of-result g c = let all : Empty c.fill.new.self = search rules in record { sound = ∣ empty_rules _ all g.K.Key.hashed g.K.PartialEq.eq ∣₁ }
 
-pub returns-clause-blank : goal.returns-clause-blank
+pub returns-clause-fresh : goal.returns-clause-fresh
 unfolding lookup
-returns-clause-blank g c = let all : Empty c.fill.new.self = search rules in empty_blank _ all g.met.K.Eq.laws
+returns-clause-fresh g c = record { blank = let all : Empty c.fill.new.self = search rules in empty_blank _ all g.met.K.Eq.laws; count = refl }
