@@ -36,7 +36,7 @@ impl Iterator for CodePoints<'_> {
 
     fn next(&mut self) -> Option<u32> {
         let (code, rest) = first_code(self.units)?;
-        self.units = rest;
+        *self = CodePoints { units: rest };
         Some(code)
     }
 }
