@@ -51,6 +51,7 @@ impl Line {
     }
 }
 
+// The same in the other replay: a crate of its own for one line would say no more.
 fn next<'a>(words: &mut Split<'a, char>) -> anyhow::Result<&'a str> {
     words.next().context("a line that is too short")
 }

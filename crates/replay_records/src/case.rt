@@ -45,6 +45,7 @@ pub fn agrees_on_every(heap: Global, line: &str) -> anyhow::Result<bool> {
     Ok(digest.0 == told)
 }
 
+// The same in the other replay: a crate of its own for one line would say no more.
 fn next<'a>(words: &mut Split<'a, char>) -> anyhow::Result<&'a str> {
     words.next().context("a line that is too short")
 }
