@@ -5,6 +5,7 @@ mod listing;
 mod sector;
 mod text;
 
+use fields::consts::DIR_ENTRY_LEN;
 use listing::Listing;
 use names::folding::TableFolding;
 use names::name::validate_name;
@@ -91,7 +92,8 @@ fn paths_resolved(rt: &HostRuntime) -> anyhow::Result<()> {
 }
 
 fn tell_records(rt: &HostRuntime, sector: &Sector) -> anyhow::Result<()> {
-    for (number, record) in (0..).zip(sector::records(sector)) {
+    let (records, _) = sector.as_chunks::<DIR_ENTRY_LEN>();
+    for (number, record) in (0..).zip(records) {
         match sector::read(record, number) {
             Ok(entry) => {
                 let row = Row(entry);

@@ -57,12 +57,6 @@ pub fn write(entries: &[DirEntry; RECORDS]) -> Sector {
     sector
 }
 
-/// The records of the sector.
-pub fn records(sector: &Sector) -> &[[u8; DIR_ENTRY_LEN]] {
-    let (records, _) = sector.as_chunks::<DIR_ENTRY_LEN>();
-    records
-}
-
 /// One record of the sector, read strictly.
 pub fn read(record: &[u8; DIR_ENTRY_LEN], number: u32) -> Result<DirEntry, Malformed> {
     DirEntry::read_from(record, number, Version::V3, Validation::Strict)
