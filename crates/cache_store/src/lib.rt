@@ -60,6 +60,7 @@ impl<S: RecordStore> RecordStore for CacheStore<S> {
 
     ghost faults = { S.faults };
 
+    // The four questions are the store's below, in every wrapper.
     fn version(&self) -> Version {
         self.inner.version()
     }

@@ -49,7 +49,8 @@ impl<'a> FlatStore<'a> {
 }
 
 impl FlatStore<'_> {
-    // `&self`, and a function of its own: bytes that are lent through a `&mut self` are not known to stand afterwards.
+    // In each store, since each has its own place; and by `&self`, since bytes that are lent through a `&mut self` are not
+    // known to stand afterwards.
     /// Copies a record out.
     fn copy_record(&self, number: u32, into: &mut [u8; DIR_ENTRY_LEN])
         requires { number < self.now.count }

@@ -107,6 +107,7 @@ impl fmt::Display for ShownLink {
     }
 }
 
+// No `Display`: the type is another crate's, and the text this program's.
 fn kind_of(obj_type: ObjType) -> &'static str {
     match obj_type {
         ObjType::Unallocated => "free",
@@ -116,6 +117,7 @@ fn kind_of(obj_type: ObjType) -> &'static str {
     }
 }
 
+// No `Display`, as the type is another crate's too.
 fn color_of(color: Color) -> &'static str {
     match color {
         Color::Red => "red",

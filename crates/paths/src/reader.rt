@@ -72,6 +72,7 @@ fn until_separator(units: &[u16]) -> usize
 }
 
 impl Component {
+    // No `From`: a part is looked at, and not turned into a component.
     /// What a part does.
     pub fn of(units: &[u16]) -> Component
         ensures { result ≡ kind_of units.now }

@@ -67,19 +67,11 @@ impl DirEntry {
     pub fn unallocated() -> DirEntry
         ensures { result ≡ blank }
     {
+        let nameless = Name::new(&[]).unwrap();
         DirEntry {
-            name: Name::new(&[]).unwrap(),
-            obj_type: ObjType::Unallocated,
             color: Color::Red,
-            left_sibling: NO_STREAM,
-            right_sibling: NO_STREAM,
-            child: NO_STREAM,
-            clsid: [0; 16],
-            state_bits: 0,
-            creation_time: Timestamp::zero(),
-            modified_time: Timestamp::zero(),
             start_sector: 0,
-            stream_len: 0,
+            ..DirEntry::new(nameless, ObjType::Unallocated, Timestamp::zero())
         }
     }
 

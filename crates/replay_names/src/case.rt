@@ -11,7 +11,7 @@ use std::cmp::Ordering;
 pub enum Case {
     /// Two names and how they compare.
     Compare(Vec<u16>, Vec<u16>, Ordering),
-    /// Two names and whether their keys are equal.
+    /// Two names and the recorded answer, whether their keys are equal.
     Key(Vec<u16>, Vec<u16>, bool),
     /// A path and its names, or none where it is refused.
     Chain(Vec<u16>, Option<Vec<Vec<u16>>>),

@@ -60,6 +60,7 @@ fn code(word: &str) -> anyhow::Result<u32> {
     Ok(u32::from_str_radix(word, 16)?)
 }
 
+// No `FromStr`: the type is the library's.
 fn order(word: &str) -> anyhow::Result<Ordering> {
     match word {
         "less" => Ok(Ordering::Less),

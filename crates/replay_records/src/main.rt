@@ -31,6 +31,7 @@ fn replay(rt: &HostRuntime) -> anyhow::Result<Tally> {
     Ok(tally)
 }
 
+// Each replay is a program, and has its own.
 fn main(rt: HostRuntime) -> anyhow::Result<()> {
     rt.println(replay(&rt)?)?;
     Ok(())

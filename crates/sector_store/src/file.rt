@@ -45,7 +45,8 @@ impl SectorStore<'_> {
         self.start(number / per_sector) + number % per_sector * DIR_ENTRY_LEN
     }
 
-    // `&self`, and a function of its own: bytes that are lent through a `&mut self` are not known to stand afterwards.
+    // In each store, since each has its own place; and by `&self`, since bytes that are lent through a `&mut self` are not
+    // known to stand afterwards.
     /// Copies the record that begins at a place out.
     pub(crate) fn copy_record(&self, at: usize, into: &mut [u8; DIR_ENTRY_LEN])
         requires { at + 128 ≤ length self.now.bytes.now }

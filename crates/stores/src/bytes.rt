@@ -15,6 +15,7 @@ pub fn freed_record() -> [u8; DIR_ENTRY_LEN]
     DirEntry::unallocated().to_bytes()
 }
 
+// A test and a range: by `get` and `first_chunk` the proof of what is copied did not close.
 /// Copies the record that begins at a place of the bytes, where they hold a whole one from there.
 pub fn copy_out(bytes: &[u8], at: usize, into: &mut [u8; DIR_ENTRY_LEN])
     ensures copied { at + 128 ≤ length bytes.now → into.new ≡ record_at bytes.now at }

@@ -52,7 +52,7 @@ impl Cause {
     }
 }
 
-// Zeros and no `Option` where there is no record: the call that failed says so, and a fault stays four plain numbers.
+// Zeros and no `Option` where there is no record: the call that failed says so already.
 /// What a store call failed with. A growth and a post have no record of their own: their number and offset are 0.
 #[derive(Debug, Clone, Copy, PartialEq, Eq)]
 pub struct Fault {

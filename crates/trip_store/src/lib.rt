@@ -55,6 +55,7 @@ impl<S: RecordStore> RecordStore for TripStore<S> {
 
     ghost faults = { TripsOr S.faults };
 
+    // The four questions are the store's below, in every wrapper.
     fn version(&self) -> Version {
         self.inner.version()
     }
