@@ -20,6 +20,7 @@ pub(crate) fn seek<K: Key + Copy>(cells: &[Cell<K>], key: &K) -> Option<usize>
     if cells.is_empty() {
         return None;
     }
+    // By an expression, as in `put` and `give_up`: a function would take and promise the same two numbers.
     let bucket = key.hash() as usize % cells.len();
     // A loop over links, and no iterator, which would hide its measure, the place in the slice.
     let mut link = cells[bucket].head;

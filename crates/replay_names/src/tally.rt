@@ -2,6 +2,7 @@
 use crate::case::Case;
 use std::fmt;
 
+// Counts of its own, as its program names them: those of the other replay are of other things.
 #[derive(Default, Drop)]
 pub struct Tally {
     compared: u32,

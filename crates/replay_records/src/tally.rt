@@ -1,6 +1,7 @@
 //! How many lines were replayed, and how many differ.
 use std::fmt;
 
+// Counts of its own, as its program names them: those of the other replay are of other things.
 /// How many records were replayed, of how many bytes every change, and for how many lines an answer differs.
 #[derive(Default, Drop)]
 pub struct Tally {

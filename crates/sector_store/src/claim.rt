@@ -21,6 +21,7 @@ impl<'a> SectorStore<'a> {
         ensures version { result.version ≡ version }
         ensures empty { (result.used ≡ 0) × (result.room ≡ 0) }
     {
+        // Zeros that stand for no missing value: a store that holds nothing and has no room is one.
         SectorStore {
             version,
             bytes,
