@@ -1,4 +1,7 @@
 //! How many cases were replayed, and how many differ.
+ghost use Rattle.std.specs.Prelude.{◌≡◌};
+ghost use Rattle.replay_names.specs.Cases.{counted};
+
 use crate::case::Case;
 use std::fmt;
 
@@ -12,16 +15,17 @@ pub struct Tally {
 }
 
 impl Tally {
-    pub fn count(&mut self, case: &Case, agrees: bool) {
-        let asked = match case {
-            Case::Compare(..) => &mut self.compared,
-            Case::Key(..) => &mut self.keyed,
-            Case::Chain(..) => &mut self.chained,
-        };
-        *asked = asked.saturating_add(1);
-        if !agrees {
-            self.differing = self.differing.saturating_add(1);
-        }
+    /// Counts a case, and whether it differs.
+    pub fn count(&mut self, case: &Case, agrees: bool)
+        ensures { self.new ≡ counted self.old case.now agrees }
+    {
+        let compared = matches!(case, Case::Compare(..));
+        let keyed = matches!(case, Case::Key(..));
+        let chained = matches!(case, Case::Chain(..));
+        self.compared = self.compared.saturating_add(u32::from(compared));
+        self.keyed = self.keyed.saturating_add(u32::from(keyed));
+        self.chained = self.chained.saturating_add(u32::from(chained));
+        self.differing = self.differing.saturating_add(u32::from(!agrees));
     }
 }
 

@@ -4,6 +4,8 @@
 mod answer;
 mod case;
 mod tally;
+#[cfg(test)]
+mod tests;
 
 use case::{agrees, agrees_on_every};
 use tally::Tally;
@@ -23,8 +25,8 @@ fn replay(rt: &HostRuntime) -> anyhow::Result<Tally> {
                 agrees(heap, tally.records, line.as_str())?
             }
         };
+        tally.judge(agreed);
         if !agreed {
-            tally.differing = tally.differing.saturating_add(1);
             println!(rt; "differs: {line}")?;
         }
     }

@@ -1,4 +1,6 @@
 //! How many lines were replayed, and how many differ.
+ghost use Rattle.std.specs.Prelude.{◌≡◌, ◌+◌, min, if◌then◌else◌};
+
 use std::fmt;
 
 // Counts of its own, as its program names them: those of the other replay are of other things.
@@ -8,6 +10,15 @@ pub struct Tally {
     pub records: u32,
     pub bytes: u32,
     pub differing: u32,
+}
+
+impl Tally {
+    /// Counts whether a line's answers differ.
+    pub fn judge(&mut self, agrees: bool)
+        ensures { self.new ≡ record self.old { differing = min (self.old.differing + (if agrees then 0 else 1)) 0xffff_ffff } }
+    {
+        self.differing = self.differing.saturating_add(u32::from(!agrees));
+    }
 }
 
 impl fmt::Display for Tally {
