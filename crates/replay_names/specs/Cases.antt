@@ -1,6 +1,7 @@
 -- Recorded answers, and when the port gives them.
 --
 --   units_of ps      the units of the names of a path
+--   recorded ns      the recorded names, or none, as lists of units
 --   LeadsTo p a      the path p leads to the recorded names a, or, where a is none, is refused as above the root
 --   Agrees fold c b  b tells whether the port answers the case c as it was recorded
 --   one_more n       a count and one more, as far as a count goes
