@@ -1,15 +1,9 @@
 -- One field of one cell: as it is read, and as it is written.
-use Rattle.std.proofs.Common.{◌≡◌, ℕ, zero, suc, ◌<◌, List, [], ◌∷◌, map, length, get_or, set, None, sym, refl, ap, ◌∙◌, arith}
+use Rattle.std.proofs.Common.{◌≡◌, ℕ, ◌<◌, List, map, length, get_or, set, None, sym, ap, ◌∙◌}
 use lib.Seq.{map-set}
 use Rattle.std.proofs.lemmas.List.{get_or-map, length-map, get_or-set_same, get_or-set_other}
 use Rattle.cells.specs.declared.cell.Cell.{Cell}
 use Rattle.cells.specs.Chains.{held, head_at, next_at}
-
--- what is read inside a list does not depend on what stands for nothing
-pub reread : {X : Type 0} (xs : List X) (i : ℕ) (x y : X) → i < length xs → get_or xs i x ≡ get_or xs i y
-reread [] i x y h = absurd (omega arith)
-reread (z ∷ xs) zero x y h = refl
-reread (z ∷ xs) (suc i) x y h = reread xs i x y (omega arith)
 
 module _ {K : Type 0} where
   -- a cell that was read, field by field
