@@ -8,7 +8,7 @@ use Rattle.names.specs.Keys.{Key, key_of}
 use Rattle.names.specs.Order.{order, First, shorter, lower, later, Before, OneOf, Ordered}
 
 -- the answer for two lists tells which stands first
-lexical_ranked : (xs ys : List ℕ) → MatchOrdering (slice_cmp nat_cmp xs ys) (First xs ys) (xs ≡ ys) (First ys xs)
+pub lexical_ranked : (xs ys : List ℕ) → MatchOrdering (slice_cmp nat_cmp xs ys) (First xs ys) (xs ≡ ys) (First ys xs)
 lexical_ranked [] [] = refl
 lexical_ranked [] (y ∷ ys) = shorter
 lexical_ranked (x ∷ xs) [] = shorter
@@ -25,7 +25,7 @@ lexical_ranked (x ∷ xs) (y ∷ ys) = by_head (nat_cmp x y) (slice_cmp nat_cmp 
     by_head Greater p h k = lower h
 
 -- the answer for two keys tells which stands before
-order_ranked : (j k : Key) → MatchOrdering (order j k) (Before j k) (j ≡ k) (Before k j)
+pub order_ranked : (j k : Key) → MatchOrdering (order j k) (Before j k) (j ≡ k) (Before k j)
 order_ranked j k = by_units (nat_cmp j.units k.units) (slice_cmp nat_cmp j.folded k.folded) (ranked j.units k.units _ refl) (lexical_ranked j.folded k.folded)
   where
     by_units : (o p : Ordering) → MatchOrdering o (j.units < k.units) (j.units ≡ k.units) (k.units < j.units) → MatchOrdering p (First j.folded k.folded) (j.folded ≡ k.folded) (First k.folded j.folded) → MatchOrdering (ordering_then o p) (Before j k) (j ≡ k) (Before k j)
@@ -36,12 +36,12 @@ order_ranked j k = by_units (nat_cmp j.units k.units) (slice_cmp nat_cmp j.folde
     by_units Greater p h f = inl h
 
 -- a list does not stand before itself
-first_irreflexive : {xs ys : List ℕ} → First xs ys → xs ≡ ys → ⊥
+pub first_irreflexive : {xs ys : List ℕ} → First xs ys → xs ≡ ys → ⊥
 first_irreflexive shorter e = let z : ◌≡◌ {A = ℕ} 0 1 = cc in omega arith
 first_irreflexive (lower {x} {y} h) e = let z : x ≡ y = cc in omega arith
 first_irreflexive (later {x} {xs} {ys} f) e = let z : xs ≡ ys = cc in first_irreflexive f z
 
-first_transitive : {xs ys zs : List ℕ} → First xs ys → First ys zs → First xs zs
+pub first_transitive : {xs ys zs : List ℕ} → First xs ys → First ys zs → First xs zs
 first_transitive shorter (lower h) = shorter
 first_transitive shorter (later f) = shorter
 first_transitive (lower h) (lower k) = lower (omega arith)
@@ -49,20 +49,20 @@ first_transitive (lower h) (later f) = lower h
 first_transitive (later f) (lower h) = lower h
 first_transitive (later f) (later k) = later (first_transitive f k)
 
-before_irreflexive : (j k : Key) → Before j k → j ≡ k → ⊥
+pub before_irreflexive : (j k : Key) → Before j k → j ≡ k → ⊥
 before_irreflexive j k (inl h) e = let z : j.units ≡ k.units = ap (λ v. v.units) e in omega arith
 before_irreflexive j k (inr (u, f)) e = first_irreflexive f (ap (λ v. v.folded) e)
 
 before_irrefl : (k : Key) → ¬ (Before k k)
 before_irrefl k b = before_irreflexive k k b refl
 
-before_transitive : (i j k : Key) → Before i j → Before j k → Before i k
+pub before_transitive : (i j k : Key) → Before i j → Before j k → Before i k
 before_transitive i j k (inl h) (inl l) = inl (omega arith)
 before_transitive i j k (inl h) (inr (u, f)) = inl (omega arith)
 before_transitive i j k (inr (u, f)) (inl h) = inl (omega arith)
 before_transitive i j k (inr (u, f)) (inr (v, g)) = inr (u ∙ v, first_transitive f g)
 
-before_asymmetric : (j k : Key) → Before j k → Before k j → ⊥
+pub before_asymmetric : (j k : Key) → Before j k → Before k j → ⊥
 before_asymmetric j k b c = before_irreflexive j j (before_transitive j k j b c) refl
 
 -- so the answers are a total order
