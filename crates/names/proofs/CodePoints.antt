@@ -1,11 +1,11 @@
 -- How the code points of a list of units follow from those of what is left of it.
-use Rattle.std.proofs.Common.{◌≡◌, ℕ, ◌-◌, ◌<◌, ◌≤◌, Bool, true, false, cond, ◌&&◌, ◌⊎◌, List, [], ◌∷◌, length, get_or, take, drop, sym, ap, inl, inr, arith}
+use Rattle.std.proofs.Common.{◌≡◌, ℕ, ◌-◌, ◌<◌, ◌≤◌, Bool, true, false, cond, ◌&&◌, ◌⊎◌, List, [], ◌∷◌, length, get_or, take, drop, sym, ap, subst, inl, inr, arith}
 use Rattle.std.proofs.lemmas.List.{take_rest, length-drop}
 use Rattle.std.specs.Iterator.{YieldsFirst}
 use Rattle.std.proofs.lemmas.Iterator.{YieldsList}
-use Rattle.std.proofs.lemmas.Iterator.Consumers.{YieldsList-from_first}
+use Rattle.std.proofs.lemmas.Iterator.Consumers.{YieldsList-from_shown, YieldsList-from_first}
 use Rattle.names.specs.declared.utf16.CodePoints.{CodePoints}
-use Rattle.names.specs.Units.{codes, high, low, joined}
+use Rattle.names.specs.Units.{codes, high, low, joined, Steps}
 
 -- a pair at the front
 pub codes_of_pair : (us : List ℕ) (c : ℕ) → 2 ≤ length us → (high (get_or us 0 0) && low (get_or us 1 0)) ≡ true → c ≡ joined (get_or us 0 0) (get_or us 1 0) → codes us ≡ c ∷ codes (take (length us - 2) (drop 2 us))
@@ -37,3 +37,8 @@ codes_few (u ∷ v ∷ us) = by_pair (high u && low v) (codes_few us) (codes_few
 -- the iterator gives the code points
 pub gives_codes : (us : List ℕ) {s : CodePoints} → s.units.now ≡ us → YieldsList (YieldsFirst (λ (t : CodePoints). codes t.units.now)) (λ c. c) s (codes us)
 gives_codes us e = YieldsList-from_first (λ c. c) (λ (t : CodePoints). codes t.units.now) (codes us) (ap codes e)
+
+-- the same of its calls of `next`
+pub next_codes : (us : List ℕ) {s : CodePoints} → s.units.now ≡ us → YieldsList (λ (t : CodePoints) r (u : CodePoints). Steps t.units.now r u.units.now) (λ c. c) s (codes us)
+next_codes us {s} e = subst (YieldsList (λ (t : CodePoints) r (u : CodePoints). Steps t.units.now r u.units.now) (λ c. c) s) (ap codes e)
+    (YieldsList-from_shown (λ (t : CodePoints) r (u : CodePoints). Steps t.units.now r u.units.now) (λ c. c) (λ (t : CodePoints). codes t.units.now) (λ t u h. ap length h.first.0) (λ t x u h. h.first) s)

@@ -8,7 +8,10 @@
 --   no_surrogate cs none of the codes is a surrogate
 --   well_formed us  no surrogate stands by itself: every high one is followed by a low one, and no low one is alone
 --   Spells us cs    us is the UTF-16 of the code points cs, one by one
-use Rattle.std.specs.Prelude.{◌≡◌, ℕ, ◌+◌, ◌-◌, ◌*◌, Bool, false, true, cond, not, ◌&&◌, List, [], ◌∷◌, nat_le}
+--   Steps us r vs   r is the first code point of us, and vs are the units after it, fewer than us; r is none where
+--                   there are no units
+use Rattle.std.specs.Prelude.{◌≡◌, ℕ, ◌+◌, ◌-◌, ◌*◌, ◌<◌, Bool, false, true, cond, not, ◌&&◌, List, [], ◌∷◌, length, Option, MatchOption, nat_le}
+use Rattle.std.specs.Iterator.{YieldsFirst}
 use Rattle.std.specs.List.{list_all}
 
 abbrev pub high : ℕ → Bool
@@ -38,3 +41,7 @@ pub data Spells : List ℕ → List ℕ → Type 0 where
   nothing : Spells [] []
   single : {u : ℕ} {us cs : List ℕ} → surrogate u ≡ false → Spells us cs → Spells (u ∷ us) (u ∷ cs)
   pair : {h l : ℕ} {us cs : List ℕ} → high h ≡ true → low l ≡ true → Spells us cs → Spells (h ∷ l ∷ us) (joined h l ∷ cs)
+
+pub record Steps (us : List ℕ) (r : Option ℕ) (vs : List ℕ) : Type 0 where
+  pub first : YieldsFirst codes us r vs
+  pub shorter : MatchOption r (us ≡ []) (λ _. length vs < length us)

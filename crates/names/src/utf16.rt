@@ -1,7 +1,7 @@
 //! UTF-16 units taken apart into code points.
 ghost use Rattle.std.specs.Prelude.{◌≡◌, ℕ, ◌<◌, true, ◌&&◌, List, [], ◌∷◌, length, Decides, MatchOption};
-ghost use Rattle.std.specs.Iterator.{YieldsFirst, item_count};
-ghost use Rattle.names.specs.Units.{high, low, surrogate, joined, codes, well_formed, Spells};
+ghost use Rattle.std.specs.Iterator.{item_count};
+ghost use Rattle.names.specs.Units.{high, low, surrogate, joined, codes, well_formed, Spells, Steps};
 
 /// The code points of some units, from the front. A surrogate that stands by itself is handed out as it is:
 /// `is_well_formed` tells whether there is one.
@@ -30,7 +30,7 @@ impl<'a> CodePoints<'a> {
 impl Iterator for CodePoints<'_> {
     type Item = u32;
 
-    ghost next_gives = { YieldsFirst (λ s. codes s.units.now) };
+    ghost next_gives = { λ s r t. Steps s.units.now r t.units.now };
 
     ghost remaining = { item_count (λ s. codes s.units.now) };
 
