@@ -1,5 +1,5 @@
 //! A name's key: its unit count and its folded code points.
-ghost use Rattle.std.specs.Prelude.{◌≡◌, ◌+◌, ◌<◌, slice_set, Decides};
+ghost use Rattle.std.specs.Prelude.{◌≡◌, Decides};
 ghost use Rattle.std.proofs.Common.{rules};
 ghost use Rattle.std.specs.Cmp.Rules.{comparing};
 ghost use Rattle.names.specs.Keys.{key_of, keyed, in_place, same_key};
@@ -26,15 +26,6 @@ impl NameKey {
         let count = usize::from(self.code_count).min(MAX_NAME_LEN);
         &self.codes[..count]
     }
-
-    /// One folded code point more.
-    fn push(&mut self, code: u32)
-        requires { self.old.code_count < 31 }
-        ensures { self.new ≡ record self.old { code_count = self.old.code_count + 1; codes = slice_set self.old.codes self.old.code_count code } }
-    {
-        self.codes[usize::from(self.code_count)] = code;
-        self.code_count += 1;
-    }
 }
 
 // Not derived, since what stands in the array behind the code points that count says nothing.
@@ -60,13 +51,16 @@ pub fn name_key<F: Folding>(folding: &F, name: &Name) -> NameKey
     ensures { result ≡ in_place (key_of (F.folds folding.now) name.now) }
 {
     let units = name.units();
-    let mut key = NameKey {
-        unit_count: units.len() as u8,
-        code_count: 0,
-        codes: [0; MAX_NAME_LEN],
-    };
+    // The array and its count are locals, not fields of a key, whose count each step would read and write in memory.
+    let mut codes = [0; MAX_NAME_LEN];
+    let mut count: usize = 0;
     for code in code_points(units) {
-        key.push(folding.fold(code));
+        codes[count] = folding.fold(code);
+        count += 1;
     }
-    key
+    NameKey {
+        unit_count: units.len() as u8,
+        code_count: count as u8,
+        codes,
+    }
 }
