@@ -1,5 +1,6 @@
 pub mod CodePoints
 pub mod Filling
+pub mod FoldedOrder
 pub mod KeyFilling
 pub mod Pairs
 pub mod Spelling

@@ -22,9 +22,21 @@ pub fn compare_names<F: Folding>(folding: &F, left: &[u16], right: &[u16]) -> Or
 fn compare_folded<F: Folding>(folding: &F, left: &[u16], right: &[u16]) -> Ordering
     ensures { result ≡ slice_cmp nat_cmp (map (F.folds folding.now) (codes left.now)) (map (F.folds folding.now) (codes right.now)) }
 {
-    let left = code_points(left).map(|code| folding.fold(code));
-    let right = code_points(right).map(|code| folding.fold(code));
-    left.cmp(right)
+    // No `cmp` of two mapped iterators, which takes more steps for each code point.
+    let mut others = code_points(right);
+    for x in code_points(left) {
+        let Some(y) = others.next() else {
+            return Ordering::Greater;
+        };
+        match folding.fold(x).cmp(&folding.fold(y)) {
+            Ordering::Equal => {}
+            other => return other,
+        }
+    }
+    match others.next() {
+        Some(_) => Ordering::Less,
+        None => Ordering::Equal,
+    }
 }
 
 /// States that names are totally ordered by `compare_names`, for proofs to call; it does nothing.
