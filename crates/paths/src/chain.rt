@@ -9,6 +9,13 @@ use crate::trail::Trail;
 use crate::{Component, MAX_NAMES, NameChain, Part, Parts, PathError};
 use names::utf16::is_well_formed;
 
+/// What stands in a trail before there is a name.
+// Behind a reference, so that it is copied whole: to fill the array part by part takes longer than to follow a short path.
+const NO_NAMES: &[Part<'static>; MAX_NAMES] = &[Part {
+    units: &[],
+    place: 0,
+}; MAX_NAMES];
+
 /// The names of a path, from the root down.
 pub fn name_chain_from_path(path: &[u16]) -> Result<NameChain<'_>, PathError>
     ensures names { MatchResult result (λ chain. (path_refusal path.now ≡ None) × (chained chain ≡ resolved path.now)) (λ e. path_refusal path.now ≡ Some e) }
@@ -18,7 +25,12 @@ pub fn name_chain_from_path(path: &[u16]) -> Result<NameChain<'_>, PathError>
     if !is_well_formed(path) {
         return Err(PathError::BadUtf16);
     }
-    let trail = follow(path)?;
+    let mut trail = Trail {
+        names: *NO_NAMES,
+        len: 0,
+        most: 0,
+    };
+    follow(path, &mut trail)?;
     if trail.most > MAX_NAMES {
         return Err(PathError::TooManyNames);
     }
@@ -29,17 +41,11 @@ pub fn name_chain_from_path(path: &[u16]) -> Result<NameChain<'_>, PathError>
 }
 
 /// Follows a path from the root; a `..` without a name before it is refused.
-fn follow(path: &[u16]) -> Result<Trail<'_>, PathError>
-    ensures { MatchResult result (λ trail. Onward path.now (cut 0 path.now) [] trail) (λ e. (e ≡ AboveRoot) × (0 < (walk (cut 0 path.now)).ups)) }
+// It fills a trail of its caller's, since one in its answer would be copied.
+fn follow<'a>(path: &'a [u16], trail: &mut Trail<'a>) -> Result<(), PathError>
+    requires { Onward path.now (cut 0 path.now) (cut 0 path.now) trail.old }
+    ensures { MatchResult result (λ _. Onward path.now (cut 0 path.now) [] trail.new) (λ e. (e ≡ AboveRoot) × (0 < (walk (cut 0 path.now)).ups)) }
 {
-    let mut trail = Trail {
-        names: [Part {
-            units: &[],
-            place: 0,
-        }; MAX_NAMES],
-        len: 0,
-        most: 0,
-    };
     for part in Parts::new(path) {
         match Component::of(part.units) {
             Component::CurDir => {}
@@ -47,7 +53,7 @@ fn follow(path: &[u16]) -> Result<Trail<'_>, PathError>
             Component::Normal => trail.enter(part),
         }
     }
-    Ok(trail)
+    Ok(())
 }
 
 impl<'a> NameChain<'a> {

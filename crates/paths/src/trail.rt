@@ -21,12 +21,14 @@ impl<'a> Trail<'a> {
         requires { self.old.len + 1 < 2 ^ 64 }
         ensures { self.new ≡ entered self.old name.entry }
     {
+        // The counts are read before the name is put, and set after it, so that they need not be read again.
         let len = self.len;
-        self.len = len + 1;
-        self.most = self.most.max(len + 1);
+        let most = self.most;
         if len < MAX_NAMES {
             self.names[len] = name;
         }
+        self.len = len + 1;
+        self.most = most.max(len + 1);
     }
 
     /// Takes the last name away; there has to be one.

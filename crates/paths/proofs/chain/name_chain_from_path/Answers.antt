@@ -9,6 +9,6 @@ pub returns-clause-spelled : goal.returns-clause-spelled
 returns-clause-spelled c =
     let us = c.args.path.now in
     let well : well_formed us ≡ true = sym c.if-not-is_well_formed.ensures.value in
-    let few : c.in_ok-trail.trail.most ≤ 64 = omega arith in
-    let names = followed us c.in_ok-trail.trail c.in_ok-trail.ensures few well in
+    let few : c.follow.new.trail.most ≤ 64 = omega arith in
+    let names = followed us c.follow.new.trail c.in_ok-follow.ensures few well in
     subst AllWellFormed (sym names.1) (names_well_formed us well)
