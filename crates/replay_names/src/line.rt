@@ -1,6 +1,7 @@
 //! A line of the list.
 use crate::case::Case;
-use anyhow::{Context, anyhow};
+use anyhow::{anyhow, ensure};
+use hex::FromHex;
 use std::alloc::Global;
 use std::cmp::Ordering;
 use std::str::Split;
@@ -22,38 +23,35 @@ pub enum Line {
 }
 
 impl Line {
+    // A word that the line lacks is `-` where units are asked for first, and else an empty one.
     pub fn read(heap: Global, line: &str) -> anyhow::Result<Line> {
         let mut words = line.split(' ');
-        match next(&mut words)? {
+        match words.next().unwrap_or("") {
             "ascii" => Ok(Line::Under(Under::Ascii)),
             "table" => Ok(Line::Under(Under::Table)),
             "fold" => {
-                let from = code(next(&mut words)?)?;
-                Ok(Line::Pair(from, code(next(&mut words)?)?))
+                let from = code(words.next().unwrap_or("-"))?;
+                Ok(Line::Pair(from, code(words.next().unwrap_or(""))?))
             }
             "compare" => {
-                let left = units(heap, next(&mut words)?)?;
-                let right = units(heap, next(&mut words)?)?;
-                let order = order(next(&mut words)?)?;
+                let left = units(heap, words.next().unwrap_or("-"))?;
+                let right = units(heap, words.next().unwrap_or("-"))?;
+                let order = order(words.next().unwrap_or(""))?;
                 Ok(Line::Case(Case::Compare(left, right, order)))
             }
             "key" => {
-                let left = units(heap, next(&mut words)?)?;
-                let right = units(heap, next(&mut words)?)?;
-                Ok(Line::Case(Case::Key(left, right, next(&mut words)? == "same")))
+                let left = units(heap, words.next().unwrap_or("-"))?;
+                let right = units(heap, words.next().unwrap_or("-"))?;
+                let same = words.next().unwrap_or("") == "same";
+                Ok(Line::Case(Case::Key(left, right, same)))
             }
             "chain" => {
-                let path = units(heap, next(&mut words)?)?;
+                let path = units(heap, words.next().unwrap_or("-"))?;
                 Ok(Line::Case(Case::Chain(path, names(heap, words)?)))
             }
             _ => Err(anyhow!("a line of no known kind")),
         }
     }
-}
-
-// The same in the other replay: a crate of its own for one line would say no more.
-fn next<'a>(words: &mut Split<'a, char>) -> anyhow::Result<&'a str> {
-    words.next().context("a line that is too short")
 }
 
 fn code(word: &str) -> anyhow::Result<u32> {
@@ -70,19 +68,25 @@ fn order(word: &str) -> anyhow::Result<Ordering> {
     }
 }
 
-/// Units in hex, four digits each; `-` for none.
+/// Units in hex, four small digits each; `-` for none. What is left of a last unit that is not whole says nothing.
 fn units(heap: Global, word: &str) -> anyhow::Result<Vec<u16>> {
     if word == "-" {
         return Ok(Vec::new(heap));
     }
-    let bytes = hex::decode(heap, word)?;
-    let (pairs, _) = bytes.as_chunks::<2>();
-    Ok(
-        pairs
-            .iter()
-            .map(|pair| u16::from_be_bytes(*pair))
-            .collect(heap)?,
-    )
+    // `hex` would take capitals too.
+    ensure!(word.bytes().all(is_hex_digit), "no hex digit");
+    // Unit by unit, so that a long word needs no more memory than its units.
+    let (quads, _) = word.as_bytes().as_chunks::<4>();
+    let mut units = Vec::new(heap);
+    for digits in quads {
+        let bytes = <[u8; 2]>::from_hex(digits)?;
+        units.push(u16::from_be_bytes(bytes))?;
+    }
+    Ok(units)
+}
+
+fn is_hex_digit(byte: u8) -> bool {
+    matches!(byte, b'0'..=b'9' | b'a'..=b'f')
 }
 
 /// The names that a path leaves, or none where it is refused.

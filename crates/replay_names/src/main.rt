@@ -4,6 +4,8 @@
 mod case;
 mod line;
 mod tally;
+#[cfg(test)]
+mod tests;
 
 use case::Case;
 use line::{Line, Under};

@@ -8,9 +8,11 @@ use fields::version::Version;
 use hex::FromHex;
 use records::direntry::DirEntry;
 use std::alloc::{AllocError, Global};
-use std::str::Split;
 
 type Record = [u8; DIR_ENTRY_LEN];
+
+/// The digits of a record in hex.
+const RECORD_DIGITS: usize = 2 * DIR_ENTRY_LEN;
 
 /// The versions and modes in which each record was read, in the order of its answers.
 const READINGS: [(Version, Validation); 4] = [
@@ -23,16 +25,16 @@ const READINGS: [(Version, Validation); 4] = [
 /// Whether the port gives the answers of a line for one record.
 pub fn agrees(heap: Global, id: u32, line: &str) -> anyhow::Result<bool> {
     let (hex, told) = line.split_once(' ').context("a line without answers")?;
-    let record = Record::from_hex(hex)?;
+    let record = record_of(hex)?;
     Ok(answers(heap, id, &record)?.as_str() == told)
 }
 
 /// Whether the port gives the answers for the 255 records with another value in one byte: `RECORD BYTE DIGEST`.
 pub fn agrees_on_every(heap: Global, line: &str) -> anyhow::Result<bool> {
     let mut words = line.split(' ');
-    let record = Record::from_hex(next(&mut words)?)?;
-    let at = next(&mut words)?.parse::<usize>()?;
-    let told = u64::from_str_radix(next(&mut words)?, 16)?;
+    let record = record_of(words.next().unwrap_or(""))?;
+    let at = words.next().unwrap_or("").parse::<usize>()?;
+    let told = u64::from_str_radix(words.next().unwrap_or(""), 16)?;
     ensure!(at < record.len(), "a byte outside the record");
     let mut digest = Digest::new();
     for value in 0..=u8::MAX {
@@ -45,9 +47,26 @@ pub fn agrees_on_every(heap: Global, line: &str) -> anyhow::Result<bool> {
     Ok(digest.0 == told)
 }
 
-// The same in the other replay: a crate of its own for one line would say no more.
-fn next<'a>(words: &mut Split<'a, char>) -> anyhow::Result<&'a str> {
-    words.next().context("a line that is too short")
+/// A record in hex, in small digits. One digit behind it says nothing.
+fn record_of(hex: &str) -> anyhow::Result<Record> {
+    // As the digits come: two behind the record are too many, whatever follows them.
+    let digits = &hex.as_bytes()[..hex.len().min(RECORD_DIGITS + 2)];
+    // `hex` would take capitals too.
+    ensure!(
+        digits
+            .iter()
+            .all(|digit| matches!(digit, b'0'..=b'9' | b'a'..=b'f')),
+        "no hex digit"
+    );
+    ensure!(
+        digits.len() < RECORD_DIGITS + 2,
+        "a record of more than 128 bytes"
+    );
+    ensure!(
+        digits.len() >= RECORD_DIGITS,
+        "a record of fewer than 128 bytes"
+    );
+    Ok(Record::from_hex(&digits[..RECORD_DIGITS])?)
 }
 
 /// A digest of lines: FNV-1a, 64 bits.

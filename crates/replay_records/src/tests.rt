@@ -1,4 +1,4 @@
-//! A line of the list agrees, and does not with another answer or another record.
+//! A line of the list agrees, and does not with another answer or another record; and how a record in hex is read.
 use crate::case::{agrees, agrees_on_every};
 
 const RECORD: &str =
@@ -18,6 +18,10 @@ fn one_answer_tells(rt: HostRuntime) -> anyhow::Result<()> {
     assert!(rt; agrees(heap, 1, line.as_str())?);
     let other = format!(in heap; "{RECORD} {TOLD}0")?;
     assert!(rt; !agrees(heap, 1, other.as_str())?);
+    // The same record but for its first letter.
+    let rest = RECORD.strip_prefix("53").unwrap_or("");
+    let other = format!(in heap; "52{rest} {TOLD}")?;
+    assert!(rt; !agrees(heap, 1, other.as_str())?);
     Ok(())
 }
 
@@ -28,5 +32,20 @@ fn every_change_tells(rt: HostRuntime) -> anyhow::Result<()> {
     assert!(rt; agrees_on_every(heap, line.as_str())?);
     let other = format!(in heap; "{RECORD} 1 {DIGEST}")?;
     assert!(rt; !agrees_on_every(heap, other.as_str())?);
+    Ok(())
+}
+
+#[test]
+fn records_have_small_digits(rt: HostRuntime) -> anyhow::Result<()> {
+    let heap = rt.alloc();
+    let longer = format!(in heap; "{RECORD}0 {TOLD}")?;
+    assert!(rt; agrees(heap, 1, longer.as_str())?);
+    let too_long = format!(in heap; "{RECORD}00 {TOLD}")?;
+    assert!(rt; agrees(heap, 1, too_long.as_str()).is_err());
+    let rest = RECORD.strip_prefix("53").unwrap_or("");
+    let too_short = format!(in heap; "5{rest} {TOLD}")?;
+    assert!(rt; agrees(heap, 1, too_short.as_str()).is_err());
+    let capital = format!(in heap; "5A{rest} {TOLD}")?;
+    assert!(rt; agrees(heap, 1, capital.as_str()).is_err());
     Ok(())
 }
