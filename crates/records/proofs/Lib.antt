@@ -5,6 +5,7 @@ pub mod WritesInOrder
 pub mod JudgedInSteps
 pub mod KeptRules
 pub mod AcceptedMeans
+pub mod NumbersAt
 pub mod NumbersBack
 pub mod StrictExact
 pub mod WrittenStands

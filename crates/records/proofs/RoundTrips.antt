@@ -1,5 +1,5 @@
 -- The laws of reading and writing.
-use Rattle.std.proofs.Common.{◌≡◌, ℕ, suc, take, get_or, ◌+◌, ◌*◌, ◌/◌, ◌%◌, ◌<◌, Bool, true, false, cond, List, [], ◌∷◌, ◌++◌, length, replicate, Ok, sym, refl, ap, ◌∙◌, subst, arith}
+use Rattle.std.proofs.Common.{◌≡◌, ℕ, ◌+◌, ◌*◌, ◌/◌, ◌%◌, ◌<◌, Bool, true, false, cond, List, [], ◌∷◌, ◌++◌, length, replicate, Ok, sym, refl, ap, ◌∙◌, subst, arith}
 use Rattle.fields.specs.declared.version.Version.{Version}
 use Rattle.fields.specs.declared.version.Version.TheVariants.{V3, V4}
 use Rattle.fields.specs.declared.validate.Validation.{Validation}
@@ -16,7 +16,7 @@ use Rattle.records.specs.Allowed.{IsRecord, Allowed, Stands, zero_if, length_byt
 use Rattle.records.specs.Laws.{StrictIsExact, WrittenReadsBack, StrictInPermissive, RewrittenIsCanonical, RecordsTell}
 use Rattle.records.proofs.KeptRules.{Holds, read_holds, holds_read}
 use Rattle.records.proofs.AcceptedMeans.{type_kept, color_kept}
-use Rattle.std.proofs.lemmas.List.{at_drop_more}
+use Rattle.records.proofs.NumbersAt.{number_more}
 use Rattle.records.proofs.NumbersBack.{bytes_back, part_below}
 use Rattle.records.proofs.StrictExact.{standing_reads, type_tells, color_tells}
 use Rattle.records.proofs.WrittenStands.{written_record, written_stands}
@@ -64,11 +64,6 @@ permissive bs v e q =
 field_back : (b : Bool) (x w : ℕ) (xs : List ℕ) → bytes_of w 0 ≡ replicate w 0 → bytes_of w x ≡ xs → bytes_of w (cond b 0 x) ≡ zero_if b w xs
 field_back true x w xs z h = z
 field_back false x w xs z h = h
-
--- the first byte, and the rest from the next offset on
-number_more : (bs : List ℕ) (at j n : ℕ) → at < length bs → at + 1 ≡ j → number (part at (suc n) bs) ≡ get_or bs at 0 + number (part j n bs) * 256
-number_more bs at j n h e =
-    at_drop_more (λ l. number (take (suc n) l)) bs at 0 h ∙ ap (λ k. get_or bs at 0 + number (part k n bs) * 256) e
 
 -- the low half of eight bytes
 halves : (bs : List ℕ) → IsRecord bs → number (part 120 8 bs) % 4294967296 ≡ number (part 120 4 bs)
