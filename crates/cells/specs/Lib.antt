@@ -1,3 +1,4 @@
+pub mod Words
 pub mod Chains
 pub mod Rules
 pub mod Maps

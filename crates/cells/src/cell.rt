@@ -1,6 +1,8 @@
 ghost use Rattle.std.specs.Prelude.{◌≡◌};
 ghost use Rattle.cells.specs.Chains.{emptied};
 
+use crate::link::CellLink;
+
 /// A key and the value under it.
 #[derive(Clone, Copy)]
 pub(crate) struct Entry<K> {
@@ -14,9 +16,9 @@ pub struct Cell<K> {
     pub(crate) entry: Option<Entry<K>>,
     // Fixed memory: the cells are lent, so a chain is linked by their numbers.
     /// The next cell of this entry's chain.
-    pub(crate) next: Option<usize>,
+    pub(crate) next: CellLink,
     /// The first cell of the chain of the bucket that has this cell's number.
-    pub(crate) head: Option<usize>,
+    pub(crate) head: CellLink,
 }
 
 impl<K> Cell<K> {
@@ -26,8 +28,8 @@ impl<K> Cell<K> {
     {
         Cell {
             entry: None,
-            next: None,
-            head: None,
+            next: CellLink::none(),
+            head: CellLink::none(),
         }
     }
 }

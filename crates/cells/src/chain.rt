@@ -5,6 +5,7 @@ ghost use Rattle.std.specs.Prelude.{◌≡◌, ◌<◌, length, Some, None, Matc
 ghost use Rattle.cells.specs.Chains.{held, valued, revalued, without, Kept, Holds, Lacks, Between, Hooked};
 
 use crate::cell::{Cell, Entry};
+use crate::link::CellLink;
 use keys::key::Key;
 
 // Functions over lent cells: they run between two sound states of a table, so what they keep is less than its invariant.
@@ -24,7 +25,7 @@ pub(crate) fn seek<K: Key + Copy>(cells: &[Cell<K>], key: &K) -> Option<usize>
     let bucket = key.hash() as usize % cells.len();
     // A loop over links, and no iterator, which would hide its measure, the place in the slice.
     let mut link = cells[bucket].head;
-    while let Some(at) = link {
+    while let Some(at) = link.get() {
         let cell = cells[at];
         if cell.entry.is_some_and(|entry| entry.key == *key) {
             return Some(at);
@@ -46,7 +47,7 @@ pub(crate) fn value_at<K: Copy>(cells: &[Cell<K>], at: usize) -> Option<u32>
 #[derive(Clone, Copy)]
 struct Gap {
     before: Option<usize>,
-    after: Option<usize>,
+    after: CellLink,
 }
 
 /// Where the cell `f` has, or would have, its place in the chain of a bucket.
@@ -59,17 +60,17 @@ fn find_gap<K: Key + Copy>(cells: &[Cell<K>], bucket: usize, f: usize) -> Gap
     // A loop over links, and no iterator, which would hide its measure, the place in the slice.
     let mut before = None;
     let mut after = cells[bucket].head;
-    while let Some(at) = after
+    while let Some(at) = after.get()
         && at < f
     {
-        before = after;
+        before = Some(at);
         after = cells[at].next;
     }
     Gap { before, after }
 }
 
 /// Lets the link at a place in a bucket's chain go to the cell `x`, or end the chain.
-fn hook<K: Copy>(cells: &mut [Cell<K>], bucket: usize, before: Option<usize>, x: Option<usize>)
+fn hook<K: Copy>(cells: &mut [Cell<K>], bucket: usize, before: Option<usize>, x: CellLink)
     requires bucket { bucket < length cells.old }
     requires inside { (i : ℕ) → before ≡ Some i → i < length cells.old }
     ensures { Hooked cells.old cells.new bucket before x }
@@ -93,7 +94,7 @@ pub(crate) fn put<K: Key + Copy>(cells: &mut [Cell<K>], f: usize, entry: Entry<K
     let cell = &mut cells[f];
     cell.entry = Some(entry);
     cell.next = after;
-    hook(cells, bucket, before, Some(f));
+    hook(cells, bucket, before, CellLink::to(f));
 }
 
 /// Takes the cell `f` out of its chain, and the entry out of the cell.
