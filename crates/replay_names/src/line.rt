@@ -23,7 +23,7 @@ pub enum Line {
 }
 
 impl Line {
-    // A word that the line lacks is `-` where units are asked for first, and else an empty one.
+    // A word that the line lacks is `-` where units are asked for first, and else an empty one. The last units are read first.
     pub fn read(heap: Global, line: &str) -> anyhow::Result<Line> {
         let mut words = line.split(' ');
         match words.next().unwrap_or("") {
@@ -34,20 +34,23 @@ impl Line {
                 Ok(Line::Pair(from, code(words.next().unwrap_or(""))?))
             }
             "compare" => {
-                let left = units(heap, words.next().unwrap_or("-"))?;
+                let left = words.next().unwrap_or("-");
                 let right = units(heap, words.next().unwrap_or("-"))?;
+                let left = units(heap, left)?;
                 let order = order(words.next().unwrap_or(""))?;
                 Ok(Line::Case(Case::Compare(left, right, order)))
             }
             "key" => {
-                let left = units(heap, words.next().unwrap_or("-"))?;
+                let left = words.next().unwrap_or("-");
                 let right = units(heap, words.next().unwrap_or("-"))?;
+                let left = units(heap, left)?;
                 let same = words.next().unwrap_or("") == "same";
                 Ok(Line::Case(Case::Key(left, right, same)))
             }
             "chain" => {
-                let path = units(heap, words.next().unwrap_or("-"))?;
-                Ok(Line::Case(Case::Chain(path, names(heap, words)?)))
+                let path = words.next().unwrap_or("-");
+                let names = names(heap, words)?;
+                Ok(Line::Case(Case::Chain(units(heap, path)?, names)))
             }
             _ => Err(anyhow!("a line of no known kind")),
         }
