@@ -1,7 +1,6 @@
 //! A line of the list.
 use crate::case::Case;
-use anyhow::{anyhow, ensure};
-use hex::FromHex;
+use anyhow::anyhow;
 use std::alloc::Global;
 use std::cmp::Ordering;
 use std::str::Split;
@@ -72,24 +71,34 @@ fn order(word: &str) -> anyhow::Result<Ordering> {
 }
 
 /// Units in hex, four small digits each; `-` for none. What is left of a last unit that is not whole says nothing.
+// Digit by digit, and not by `hex`: it takes capitals too, needs the bytes of a whole word at once, and unit by unit more time.
 fn units(heap: Global, word: &str) -> anyhow::Result<Vec<u16>> {
-    if word == "-" {
-        return Ok(Vec::new(heap));
-    }
-    // `hex` would take capitals too.
-    ensure!(word.bytes().all(is_hex_digit), "no hex digit");
-    // Unit by unit, so that a long word needs no more memory than its units.
-    let (quads, _) = word.as_bytes().as_chunks::<4>();
     let mut units = Vec::new(heap);
-    for digits in quads {
-        let bytes = <[u8; 2]>::from_hex(digits)?;
-        units.push(u16::from_be_bytes(bytes))?;
+    if word == "-" {
+        return Ok(units);
+    }
+    let mut unit: u16 = 0;
+    let mut digits: u8 = 0;
+    for byte in word.bytes() {
+        let Some(digit) = hex_digit(byte) else {
+            return Err(anyhow!("no hex digit"));
+        };
+        unit = unit.wrapping_mul(16).wrapping_add(digit);
+        digits = digits.wrapping_add(1);
+        if digits == 4 {
+            units.push(unit)?;
+            digits = 0;
+        }
     }
     Ok(units)
 }
 
-fn is_hex_digit(byte: u8) -> bool {
-    matches!(byte, b'0'..=b'9' | b'a'..=b'f')
+fn hex_digit(byte: u8) -> Option<u16> {
+    match byte {
+        b'0'..=b'9' => Some(u16::from(byte - b'0')),
+        b'a'..=b'f' => Some(u16::from(byte - b'a' + 10)),
+        _ => None,
+    }
 }
 
 /// The names that a path leaves, or none where it is refused.
