@@ -1,9 +1,8 @@
 -- How the code points of a list of units follow from those of what is left of it.
 use Rattle.std.proofs.Common.{◌≡◌, ℕ, ◌-◌, ◌<◌, ◌≤◌, Bool, true, false, cond, ◌&&◌, ◌⊎◌, List, [], ◌∷◌, length, get_or, take, drop, sym, ap, subst, inl, inr, arith}
 use Rattle.std.proofs.lemmas.List.{take_rest, length-drop}
-use Rattle.std.specs.Iterator.{YieldsFirst}
 use Rattle.std.proofs.lemmas.Iterator.{YieldsList}
-use Rattle.std.proofs.lemmas.Iterator.Consumers.{YieldsList-from_shown, YieldsList-from_first}
+use Rattle.std.proofs.lemmas.Iterator.Consumers.{YieldsList-from_shown}
 use Rattle.names.specs.declared.utf16.CodePoints.{CodePoints}
 use Rattle.names.specs.Units.{codes, high, low, joined, Steps}
 
@@ -34,11 +33,7 @@ codes_few (u ∷ v ∷ us) = by_pair (high u && low v) (codes_few us) (codes_few
     by_pair true h k = omega arith
     by_pair false h k = omega arith
 
--- the iterator gives the code points
-pub gives_codes : (us : List ℕ) {s : CodePoints} → s.units.now ≡ us → YieldsList (YieldsFirst (λ (t : CodePoints). codes t.units.now)) (λ c. c) s (codes us)
-gives_codes us e = YieldsList-from_first (λ c. c) (λ (t : CodePoints). codes t.units.now) (codes us) (ap codes e)
-
--- the same of its calls of `next`
+-- the iterator gives the code points, one by each call of `next`
 pub next_codes : (us : List ℕ) {s : CodePoints} → s.units.now ≡ us → YieldsList (λ (t : CodePoints) r (u : CodePoints). Steps t.units.now r u.units.now) (λ c. c) s (codes us)
 next_codes us {s} e = subst (YieldsList (λ (t : CodePoints) r (u : CodePoints). Steps t.units.now r u.units.now) (λ c. c) s) (ap codes e)
     (YieldsList-from_shown (λ (t : CodePoints) r (u : CodePoints). Steps t.units.now r u.units.now) (λ c. c) (λ (t : CodePoints). codes t.units.now) (λ t u h. ap length h.first.0) (λ t x u h. h.first) s)
