@@ -3,7 +3,7 @@
 -- no_cell    the number that stands where there is no cell
 -- number_in  the number of a cell that a word says, or none
 -- word_of    the word that says it
--- same_word  a word says no less than the number in it
+-- same_word  the word of the number that a word says is that word
 
 use Rattle.std.specs.Prelude.{◌≡◌, ℕ, eqb, if◌then◌else◌, Some, None, Option}
 use Rattle.std.proofs.Common.{sym, refl, ⊎_elim}
